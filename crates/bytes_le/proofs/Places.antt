@@ -1,0 +1,20 @@
+-- What stands at a position of a chunk, after bytes were put in front.
+-- Assumes nothing.
+use mathlib.Core.Path.{_≡_, ap, _∙_}
+use mathlib.Core.List.{List, _++_}
+use Prim.Native.Nat.{ℕ, suc, _+_, _*_, _%_, _^_}
+use native.Mathlib.Nat.{zero-mul}
+use native.Mathlib.Omega.{arith}
+use lib.ListN.{length, take, drop}
+use lib.Seq.{take-at, drop-append-add}
+use Rattle.bytes_le.specs.Bytes.{fromLe, toLe, patternAt}
+use Rattle.bytes_le.proofs.Sums.{length-toLe, fromLe-toLe}
+
+pub first-place : (w b : ℕ) (rest : List ℕ) → patternAt w (toLe w b ++ rest) 0 ≡ b % 256 ^ w
+first-place w b rest = ap (λ (z : ℕ). fromLe (take w (drop z (toLe w b ++ rest)))) (zero-mul w) ∙ ap fromLe (take-at (toLe w b) rest w (length-toLe w b)) ∙ fromLe-toLe w b
+
+pub next-place : (w b i : ℕ) (rest : List ℕ) → patternAt w (toLe w b ++ rest) (suc i) ≡ patternAt w rest i
+next-place w b i rest = ap (λ (z : List ℕ). fromLe (take w z)) (ap (λ (z : ℕ). drop z (toLe w b ++ rest)) (shift w b i) ∙ drop-append-add (toLe w b) rest (i * w))
+  where
+    shift : (w b i : ℕ) → suc i * w ≡ length (toLe w b) + i * w
+    shift w b i = omega (arith, length-toLe w b)

@@ -1,0 +1,22 @@
+-- Numbers as bytes, "each element lowest byte first".
+-- Assumes nothing.
+use mathlib.Core.List.{List, [], _∷_}
+use Prim.Native.Nat.{ℕ, zero, suc, _+_, _*_, _/_, _%_, _^_}
+use lib.ListN.{take, drop}
+
+-- the sum of the bytes, each times 256 to its place, the first of them at the place i
+abbrev pub sumFrom : ℕ → List ℕ → ℕ
+sumFrom i [] = 0
+sumFrom i (x ∷ xs) = x * 256 ^ i + sumFrom (suc i) xs
+
+abbrev pub fromLe : List ℕ → ℕ
+fromLe xs = sumFrom 0 xs
+
+-- the n lowest bytes of v
+abbrev pub toLe : ℕ → ℕ → List ℕ
+toLe zero v = []
+toLe (suc n) v = v % 256 ∷ toLe n (v / 256)
+
+-- the bit pattern of the element at the position i of a chunk s of elements of w bytes
+abbrev pub patternAt : ℕ → List ℕ → ℕ → ℕ
+patternAt w s i = fromLe (take w (drop (i * w) s))

@@ -1,0 +1,70 @@
+// Numbers as bytes, lowest first, by halves: what LLVM makes one load or one store.
+ghost use mathlib.Core.Path.{_≡_};
+ghost use Prim.Native.Nat.{_+_, _<_, _^_};
+ghost use lib.ListN.{length};
+ghost use Rattle.bytes_le.specs.Bytes.{fromLe, toLe};
+
+fn wide(x: u8) -> u64
+    ensures { λ r. ⌜ (r ≡ x) × (r < 256) ⌝ }
+{
+    x as u64
+}
+
+pub fn get1(s: &[u8]) -> u64
+    requires { ⌜ length (now s) ≡ 1 ⌝ }
+    ensures { λ r. ⌜ (r ≡ fromLe (now (s .entry))) × (r < 2 ^ 8) ⌝ }
+{
+    wide(s[0])
+}
+
+pub fn get2(s: &[u8]) -> u64
+    requires { ⌜ length (now s) ≡ 2 ⌝ }
+    ensures { λ r. ⌜ (r ≡ fromLe (now (s .entry))) × (r < 2 ^ 16) ⌝ }
+{
+    get1(&s[0..1]) + get1(&s[1..2]) * 256
+}
+
+pub fn get4(s: &[u8]) -> u64
+    requires { ⌜ length (now s) ≡ 4 ⌝ }
+    ensures { λ r. ⌜ (r ≡ fromLe (now (s .entry))) × (r < 2 ^ 32) ⌝ }
+{
+    get2(&s[0..2]) + get2(&s[2..4]) * 65536
+}
+
+pub fn get8(s: &[u8]) -> u64
+    requires { ⌜ length (now s) ≡ 8 ⌝ }
+    ensures { λ r. ⌜ (r ≡ fromLe (now (s .entry))) × (r < 2 ^ 64) ⌝ }
+{
+    get4(&s[0..4]) + get4(&s[4..8]) * 4294967296
+}
+
+pub fn put1(d: &mut [u8], v: u64)
+    requires { ⌜ length (now d) ≡ 1 ⌝ }
+    ensures { λ _. ⌜ now (d .exit) ≡ toLe 1 v ⌝ }
+{
+    d[0] = (v % 256) as u8;
+}
+
+pub fn put2(d: &mut [u8], v: u64)
+    requires { ⌜ length (now d) ≡ 2 ⌝ }
+    ensures { λ _. ⌜ now (d .exit) ≡ toLe 2 v ⌝ }
+{
+    put1(&mut d[0..1], v);
+    put1(&mut d[1..2], v / 256);
+}
+
+pub fn put4(d: &mut [u8], v: u64)
+    requires { ⌜ length (now d) ≡ 4 ⌝ }
+    ensures { λ _. ⌜ now (d .exit) ≡ toLe 4 v ⌝ }
+{
+    put2(&mut d[0..2], v);
+    put2(&mut d[2..4], v / 65536);
+}
+
+pub fn put8(d: &mut [u8], v: u64)
+    requires { ⌜ length (now d) ≡ 8 ⌝ }
+    ensures { λ _. ⌜ now (d .exit) ≡ toLe 8 v ⌝ }
+{
+    put4(&mut d[0..4], v);
+    put4(&mut d[4..8], v / 4294967296);
+}

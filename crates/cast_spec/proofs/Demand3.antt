@@ -1,0 +1,98 @@
+-- Demand 3 holds of the answer and the destination that the definitions give, whatever the inputs are. Assumes nothing.
+use mathlib.Core.Path.{_≡_, refl, sym, ap, subst, _∙_}
+use mathlib.Core.Bool.{Bool, true, false, _&&_, cond}
+use mathlib.Core.List.{List}
+use Prim.Native.Nat.{ℕ, zero, suc, _-_, _*_, _/_, _^_, _<_}
+use native.Mathlib.Nat.{mul-pos, mul-div-right, pow-suc, zero-add}
+use native.Mathlib.Omega.{arith}
+use lib.Dec.{T, ltb, eqb, lit<, lit≤}
+use lib.IntN.{ℤ}
+use lib.Pow.{pow-pos, pow-add}
+use Rattle.patterns.specs.Kind.{Kind, integer, binary, bits, WellFormed}
+use Rattle.kinds.specs.Codes.{kindOf}
+use Rattle.patterns.specs.Value.{Value, valueOf}
+use Rattle.cast_spec.specs.Chunk.{Inputs, Call, width, dw, settingsOf, codesListed, mapWhole, bytesWhole, countsMeet, callOf, outcomeAt, answerFrom, answerOf, bytesFrom, destinationOf, resultAt}
+use Rattle.bytes_le.specs.Bytes.{patternAt}
+use Rattle.cast_spec.specs.Demand3.{Reached, Taken, Rounded, Demand3, Contract}
+use Rattle.kinds.specs.declared.Answer.{Answer}
+use Rattle.cast_spec.proofs.Each.{Served, each-of}
+use Rattle.cast_spec.proofs.Places.{served}
+use Rattle.cast_spec.proofs.Order.{order-of}
+
+-- ---- any call whose answer and places are as the outcomes say, whatever its route
+pub demand3-of : (c : Call) (r : Answer) (res : ℕ → Value) → WellFormed (c .settings .to) → ((i : ℕ) → Reached c i → Served (c .settings .to) r (res i) i (outcomeAt c i)) → Demand3 c r res
+demand3-of c r res ok f = record { each = each; order = order-of c r res each }
+  where
+    each : (i : ℕ) (x : ℤ) → Taken c i x → Rounded (c .settings) r (res i) i x
+    each i x t = each-of c r (res i) i x ok t (f i (t .reached))
+
+-- ---- the ten kinds are as the laws ask
+bytes-bits : (m : ℕ) → 256 ^ m ≡ 2 ^ (8 * m)
+bytes-bits zero = refl
+bytes-bits (suc m) = pow-suc 256 m ∙ ap (λ (z : ℕ). z * 256) (bytes-bits m) ∙ sym (pow-add 2 (8 * m) 8) ∙ ap (λ (z : ℕ). 2 ^ z) (omega arith)
+
+int-fit : (m : ℕ) → 256 ^ (8 * m / 8) ≡ 2 ^ (8 * m)
+int-fit m = ap (λ (z : ℕ). 256 ^ z) (mul-div-right m (lit< tt)) ∙ bytes-bits m
+
+abbrev Fits : Kind → Type 0
+Fits k = 256 ^ width k ≡ 2 ^ bits k
+
+pub good : (c : ℕ) → WellFormed (kindOf c)
+good c = go (ltb c 4) (ltb c 8) (eqb c 8)
+  where
+    go : (x y z : Bool) → WellFormed (cond x (integer true (8 * 2 ^ c)) (cond y (integer false (8 * 2 ^ (c - 4))) (cond z (binary 24 8 925) (binary 53 11 0))))
+    go true y z = mul-pos (lit< tt) (pow-pos c)
+    go false true z = mul-pos (lit< tt) (pow-pos (c - 4))
+    go false false true = (lit≤ tt, lit< tt)
+    go false false false = (lit≤ tt, lit< tt)
+
+pub fits : (c : ℕ) → Fits (kindOf c)
+fits c = go (ltb c 4) (ltb c 8) (eqb c 8)
+  where
+    go : (x y z : Bool) → Fits (cond x (integer true (8 * 2 ^ c)) (cond y (integer false (8 * 2 ^ (c - 4))) (cond z (binary 24 8 925) (binary 53 11 0))))
+    go true y z = int-fit (2 ^ c)
+    go false true z = int-fit (2 ^ (c - 4))
+    go false false true = refl
+    go false false false = refl
+
+-- ---- the checks pass
+passes : (a b c d : Bool) (x p q r s : Answer) → T (a && b && c && d) → cond a (cond b (cond c (cond d x p) q) r) s ≡ x
+passes true true true true x p q r s t = refl
+passes true true true false x p q r s t = absurd t
+passes true true false d x p q r s t = absurd t
+passes true false c d x p q r s t = absurd t
+passes false b c d x p q r s t = absurd t
+
+chosen : (a : Bool) (x y : List ℕ) → T a → cond a x y ≡ x
+chosen true x y t = refl
+chosen false x y t = absurd t
+
+module _ (I : Inputs) where
+  answer-is : T (callOf I .passed) → answerOf I ≡ answerFrom (outcomeAt (callOf I)) 0 (callOf I .count)
+  unfolding answerOf callOf
+  answer-is t = passes (codesListed I) (mapWhole I) (bytesWhole I) (countsMeet I) _ _ _ _ _ t
+
+  destination-is : T (callOf I .passed) → destinationOf I ≡ bytesFrom (outcomeAt (callOf I)) (dw I) 0 (callOf I .count) (I .destination)
+  unfolding destinationOf
+  destination-is t = chosen (callOf I .passed) _ _ t
+
+  pub to-is : callOf I .settings .to ≡ kindOf (I .to)
+  unfolding callOf settingsOf
+  to-is = refl
+
+  at-place : (i : ℕ) → Reached (callOf I) i → Served (kindOf (I .to)) (answerOf I) (resultAt I (destinationOf I) i) i (outcomeAt (callOf I) i)
+  unfolding resultAt
+  at-place i R =
+      let c = callOf I in
+      let k = kindOf (I .to) in
+      rw (answer-is (R .passed), destination-is (R .passed))
+      (subst (λ (z : ℕ). Served k (answerFrom (outcomeAt c) 0 (c .count)) (valueOf k (patternAt (dw I) (bytesFrom (outcomeAt c) (dw I) 0 (c .count) (I .destination)) i)) z (outcomeAt c z)) (zero-add i)
+      (served (outcomeAt c) (dw I) k i 0 (c .count) (I .destination) (fits (I .to)) (R .within) (λ j a b. R .before j (subst (λ (z : ℕ). j < z) (zero-add i) b))))
+
+  pub demand3 : Demand3 (callOf I) (answerOf I) (resultAt I (destinationOf I))
+  demand3 = demand3-of (callOf I) (answerOf I) (resultAt I (destinationOf I)) (subst WellFormed (sym to-is) (good (I .to)))
+      (λ i R. subst (λ (k : Kind). Served k (answerOf I) (resultAt I (destinationOf I) i) i (outcomeAt (callOf I) i)) (sym to-is) (at-place i R))
+
+-- so the two equations are all that a program has to show
+pub contract : (I : Inputs) (r : Answer) (d : List ℕ) → r ≡ answerOf I → d ≡ destinationOf I → Contract I r d
+contract I r d e f = record { answer = e; bytes = f; demand3 = subst (λ (z : List ℕ). Demand3 (callOf I) r (resultAt I z)) (sym f) (subst (λ (a : Answer). Demand3 (callOf I) a (resultAt I (destinationOf I))) (sym e) (demand3 I)) }

@@ -1,0 +1,51 @@
+-- One element: what `outcomeOf` comes to for a finite element that no entry matches, and the number that its pattern has. Assumes nothing.
+use mathlib.Core.Path.{_≡_, refl, ap, _∙_}
+use mathlib.Core.Bool.{Bool, true, false, _&&_, cond}
+use mathlib.Core.List.{List, [], _∷_, List·Memᴰ, List·Memᴰ·head, List·Memᴰ·tail}
+use Prim.Native.Nat.{ℕ}
+use lib.Dec.{T}
+use lib.IntN.{ℤ}
+use lib.Signed.{_≤ℤ_, leZ, leZ-yes}
+use Rattle.grid.specs.Round.{pick}
+use Rattle.grid.proofs.Int.{ints, →eq}
+use Rattle.patterns.specs.Kind.{Kind, gridOf, lowest, highest, InRange}
+use Rattle.patterns.specs.Value.{Value, nan, inf, num, negative, valueOf}
+use Rattle.cast_spec.specs.Element.{Entry, Settings, matches, inRange, ranged, converted, mapped, outcomeOf}
+use Rattle.patterns.specs.Pattern.{asF64}
+use Rattle.kinds.specs.declared.Outcome.{Outcome}
+use Rattle.kinds.specs.declared.Outcome.the-variants.{Stored}
+use Rattle.patterns.proofs.Integers as integers
+use Rattle.patterns.proofs.Floats as floats
+
+-- ---- the map
+no-match : (k : Kind) (x : ℤ) (es : List Entry) (o : Outcome) → ((e : Entry) → List·Memᴰ e es → valueOf k (e .key) ≡ num x → ⊥) → mapped k (num x) es o ≡ o
+no-match k x [] o h = refl
+no-match k x (e ∷ es) o h = go (valueOf k (e .key)) (h e (List·Memᴰ·head refl)) (no-match k x es o (λ f m. h f (List·Memᴰ·tail m)))
+  where
+    go : (v : Value) → (v ≡ num x → ⊥) → mapped k (num x) es o ≡ o → cond (matches (num x) v) (Stored (e .target)) (mapped k (num x) es o) ≡ o
+    go nan f rest = rest
+    go (inf b) f rest = rest
+    go (num y) f rest = by (leZ x y) (leZ y x) leZ-yes leZ-yes
+      where
+        by : (c d : Bool) → (T c → x ≤ℤ y) → (T d → y ≤ℤ x) → cond (c && d) (Stored (e .target)) (mapped k (num x) es o) ≡ o
+        by true true a b = let l = a tt in let m = b tt in absurd (f (ap num (→eq y x (omega ints))))
+        by true false a b = rest
+        by false true a b = rest
+        by false false a b = rest
+
+-- ---- the steps of a finite element that no entry matches
+pub outcome-is : (S : Settings) (b : ℕ) (x : ℤ) → valueOf (S .from) b ≡ num x → ((e : Entry) → List·Memᴰ e (S .entries) → valueOf (S .from) (e .key) ≡ num x → ⊥)
+    → outcomeOf S b ≡ ranged (S .to) (S .range) (asF64 (S .from) b) (negative (S .from) b) (pick (gridOf (S .to)) (S .rule) x)
+unfolding outcomeOf
+outcome-is S b x e h =
+    ap {B = Outcome} (λ (v : Value). mapped (S .from) v (S .entries) (converted S b (S .to) v)) e
+    ∙ no-match (S .from) x (S .entries) (converted S b (S .to) (num x)) h
+
+-- in the range or past it
+pub by-range : (F : Outcome → Type 0) (k : Kind) (y : ℤ) (a b : Outcome) → F (cond (inRange k y) a b) → (InRange k y → F a) × ((InRange k y → ⊥) → F b)
+by-range F k y a b f = go (leZ (lowest k) y) (leZ y (highest k)) leZ-yes (λ h. h .le) leZ-yes (λ h. h .le) f
+  where
+    go : (c d : Bool) → (T c → lowest k ≤ℤ y) → (lowest k ≤ℤ y → T c) → (T d → y ≤ℤ highest k) → (y ≤ℤ highest k → T d) → F (cond (c && d) a b) → (InRange k y → F a) × ((InRange k y → ⊥) → F b)
+    go true true p p′ q q′ f = (λ _. f, λ n. absurd (n (p tt, q tt)))
+    go true false p p′ q q′ f = (λ h. absurd (q′ (h .1)), λ _. f)
+    go false d p p′ q q′ f = (λ h. absurd (p′ (h .0)), λ _. f)

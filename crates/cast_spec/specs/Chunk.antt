@@ -1,0 +1,140 @@
+-- The chunk call over its inputs alone: the checks, the answer, and every byte of the destination.
+-- Assumes nothing.
+use mathlib.Core.Bool.{Bool, _&&_, cond}
+use mathlib.Core.List.{List, [], _∷_, _++_}
+use Prim.Native.Nat.{ℕ, zero, suc, _/_, _%_}
+use lib.Dec.{eqb, ltb}
+use lib.ListN.{length, drop}
+use Rattle.bytes_le.specs.Bytes.{toLe, patternAt}
+use Rattle.patterns.specs.Kind.{Kind, bits}
+use Rattle.patterns.specs.Value.{Value, valueOf}
+use Rattle.kinds.specs.Codes.{kindOf, roundingOf, rangeOf}
+use Rattle.kinds.specs.declared.Outcome.{Outcome}
+use Rattle.kinds.specs.declared.Outcome.the-variants.{Stored, NanOrInf, OutOfRange, FloatOutOfRange}
+use Rattle.kinds.specs.declared.Answer.{Answer}
+use Rattle.cast_spec.specs.Element.{Entry, Settings, outcomeOf}
+use Rattle.kinds.specs.declared.Answer.the-variants.{BrokenElement, BrokenMap, LengthMismatch, UnknownCode}
+use Rattle.kinds.specs.declared.Answer.the-variants as A
+
+-- "Source, destination, map keys (source kind) and map targets (target kind) are bytes", and four codes
+pub record Inputs : Type 0 where
+  pub source : List ℕ
+  pub destination : List ℕ
+  pub keys : List ℕ
+  pub targets : List ℕ
+  pub from : ℕ
+  pub to : ℕ
+  pub rounding : ℕ
+  pub range : ℕ
+
+abbrev pub inputs : List ℕ → List ℕ → List ℕ → List ℕ → ℕ → ℕ → ℕ → ℕ → Inputs
+inputs s d ks ts f t o g = record { source = s; destination = d; keys = ks; targets = ts; from = f; to = t; rounding = o; range = g }
+
+-- the bytes of an element
+abbrev pub width : Kind → ℕ
+width k = bits k / 8
+
+-- n entries from the position j on, keys of sw bytes and targets of dw
+abbrev pub entriesFrom : ℕ → ℕ → List ℕ → List ℕ → ℕ → ℕ → List Entry
+entriesFrom sw dw ks ts j zero = []
+entriesFrom sw dw ks ts j (suc n) = record { key = patternAt sw ks j; target = patternAt dw ts j } ∷ entriesFrom sw dw ks ts (suc j) n
+
+module _ (I : Inputs) where
+  -- the widths of a source and of a destination element
+  abbrev pub sw : ℕ
+  sw = width (kindOf (I .from))
+
+  abbrev pub dw : ℕ
+  dw = width (kindOf (I .to))
+
+  unfoldable pub settingsOf : Settings
+  settingsOf = record {
+    from = kindOf (I .from);
+    to = kindOf (I .to);
+    rule = roundingOf (I .rounding);
+    range = rangeOf (I .range);
+    entries = entriesFrom sw dw (I .keys) (I .targets) 0 (length (I .keys) / sw);
+  }
+
+  -- ---- what the refusals 1 to 4 test
+
+  -- not 1: "a kind, rounding or range code not listed"
+  abbrev pub codesListed : Bool
+  codesListed = ltb (I .from) 10 && ltb (I .to) 10 && ltb (I .rounding) 5 && ltb (I .range) 3
+
+  -- not 2: "map key bytes or target bytes not whole elements, or their counts differ"
+  abbrev pub mapWhole : Bool
+  mapWhole = eqb (length (I .keys) % sw) 0 && eqb (length (I .targets) % dw) 0 && eqb (length (I .keys) / sw) (length (I .targets) / dw)
+
+  -- not 3: "source or destination bytes not whole elements"
+  abbrev pub bytesWhole : Bool
+  bytesWhole = eqb (length (I .source) % sw) 0 && eqb (length (I .destination) % dw) 0
+
+  -- not 4: "element counts differ"
+  abbrev pub countsMeet : Bool
+  countsMeet = eqb (length (I .source) / sw) (length (I .destination) / dw)
+
+-- ---- a call that converts patterns in order, whatever its route: over bytes, or over typed slices
+pub record Call : Type 0 where
+  pub settings : Settings
+  pub passed : Bool
+  pub count : ℕ
+  pub element : ℕ → ℕ
+
+unfoldable pub callOf : Inputs → Call
+callOf I = record {
+  settings = settingsOf I;
+  passed = codesListed I && mapWhole I && bytesWhole I && countsMeet I;
+  count = length (I .source) / sw I;
+  element = patternAt (sw I) (I .source);
+}
+
+-- what the element at i comes to
+unfoldable pub outcomeAt : Call → ℕ → Outcome
+outcomeAt c i = outcomeOf (c .settings) (c .element i)
+
+-- ---- the answer: "Numbers 1 to 4 are tested in that order; then elements by position."
+
+-- a refusal at i, or the answer of the rest
+abbrev pub answerNext : Outcome → ℕ → Answer → Answer
+answerNext (Stored b) i rest = rest
+answerNext (NanOrInf v) i rest = A.NanOrInf i v
+answerNext (OutOfRange v lo hi) i rest = A.OutOfRange i v lo hi
+answerNext (FloatOutOfRange v lo hi) i rest = A.FloatOutOfRange i v lo hi
+
+-- of n outcomes from the position i on
+abbrev pub answerFrom : (ℕ → Outcome) → ℕ → ℕ → Answer
+answerFrom o i zero = A.Converted
+answerFrom o i (suc n) = answerNext (o i) i (answerFrom o (suc i) n)
+
+unfoldable pub answerOf : Inputs → Answer
+answerOf I =
+    cond (codesListed I)
+    (cond (mapWhole I)
+    (cond (bytesWhole I)
+    (cond (countsMeet I) (answerFrom (outcomeAt (callOf I)) 0 (callOf I .count)) (A.LengthMismatch (length (I .source) / sw I) (length (I .destination) / dw I)))
+    A.BrokenElement)
+    A.BrokenMap)
+    A.UnknownCode
+
+-- ---- the destination: "those before it are converted, it and all later ones untouched"
+
+-- d is what stands from here on, and rest what then follows a stored element
+abbrev pub bytesNext : Outcome → ℕ → List ℕ → List ℕ → List ℕ
+bytesNext (Stored b) w d rest = toLe w b ++ rest
+bytesNext (NanOrInf v) w d rest = d
+bytesNext (OutOfRange v lo hi) w d rest = d
+bytesNext (FloatOutOfRange v lo hi) w d rest = d
+
+-- n elements of w bytes from the position i on, where d stands
+abbrev pub bytesFrom : (ℕ → Outcome) → ℕ → ℕ → ℕ → List ℕ → List ℕ
+bytesFrom o w i zero d = d
+bytesFrom o w i (suc n) d = bytesNext (o i) w d (bytesFrom o w (suc i) n (drop w d))
+
+-- "Refusals 1 to 4 leave the destination untouched."
+unfoldable pub destinationOf : Inputs → List ℕ
+destinationOf I = cond (callOf I .passed) (bytesFrom (outcomeAt (callOf I)) (dw I) 0 (callOf I .count) (I .destination)) (I .destination)
+
+-- "the number that its place in the destination holds": of the position i of a destination d
+unfoldable pub resultAt : Inputs → List ℕ → ℕ → Value
+resultAt I d i = valueOf (kindOf (I .to)) (patternAt (dw I) d i)

@@ -1,0 +1,89 @@
+-- One element: "Map; then, for a float going to an integer kind, refusal 5 if it is NaN or infinite; then rounding; then range."
+-- Assumes nothing.
+use mathlib.Core.Bool.{Bool, true, false, _&&_, cond, Bool·beq}
+use mathlib.Core.List.{List, [], _∷_}
+use Prim.Native.Nat.{ℕ, _-_}
+use lib.IntN.{ℤ}
+use lib.Signed.{ltZ, leZ}
+use Rattle.grid.specs.Round.{pick}
+use Rattle.grid.specs.declared.RoundingMode.{RoundingMode}
+use Rattle.patterns.specs.Kind.{Kind, integer, binary, gridOf, lowInt, highInt, lowest, highest}
+use Rattle.patterns.specs.Value.{Value, nan, inf, num, negative, valueOf}
+use Rattle.patterns.specs.Pattern.{patternOf, infinity, nanPattern, asF64}
+use Rattle.kinds.specs.declared.OutOfRangeMode.{OutOfRangeMode}
+use Rattle.kinds.specs.declared.OutOfRangeMode.the-variants.{None, Clamp, Wrap}
+use Rattle.kinds.specs.declared.Outcome.{Outcome}
+use Rattle.kinds.specs.declared.Outcome.the-variants.{Stored, NanOrInf, OutOfRange, FloatOutOfRange}
+
+-- a map entry: the patterns of a key of the source kind and of a target of the target kind
+pub record Entry : Type 0 where
+  pub key : ℕ
+  pub target : ℕ
+
+pub record Settings : Type 0 where
+  pub from : Kind
+  pub to : Kind
+  pub rule : RoundingMode
+  pub range : OutOfRangeMode
+  pub entries : List Entry
+
+-- ---- map
+
+-- "A NaN key matches every NaN; +0 and -0 match each other": otherwise equal as numbers, or infinities of one sign
+abbrev pub matches : Value → Value → Bool
+matches nan nan = true
+matches nan (inf b) = false
+matches nan (num y) = false
+matches (inf a) nan = false
+matches (inf a) (inf b) = Bool·beq a b
+matches (inf a) (num y) = false
+matches (num x) nan = false
+matches (num x) (inf b) = false
+matches (num x) (num y) = leZ x y && leZ y x
+
+-- "The first matching entry wins. .. The target is handed out unchanged and is not range-checked." o is the outcome where none matches
+abbrev pub mapped : Kind → Value → List Entry → Outcome → Outcome
+mapped k v [] o = o
+mapped k v (e ∷ es) o = cond (matches v (valueOf k (e .key))) (Stored (e .target)) (mapped k v es o)
+
+-- ---- range
+
+-- not "below the target's lowest finite number or above its highest"
+abbrev pub inRange : Kind → ℤ → Bool
+inRange k y = leZ (lowest k) y && leZ y (highest k)
+
+-- "Clamp gives the nearer end": of a y past one of them
+abbrev pub nearerEnd : Kind → ℤ → ℤ
+nearerEnd k y = cond (ltZ y (lowest k)) (lowest k) (highest k)
+
+-- "position, value, -MAX, MAX": the patterns just before the infinities
+abbrev pub overrun : Kind → ℕ → ℕ → ℕ → Outcome
+overrun k p w v = FloatOutOfRange v (asF64 k (infinity p w true - 1)) (asF64 k (infinity p w false - 1))
+
+-- a pick y past the range, of an element with the f64 value v and the sign neg.
+-- "Range code 0, and 2 with a float target, then refuses the element; 1 clamps it; 2 with an integer target wraps it".
+-- A float's clamp "gives the infinity of the element's sign".
+unfoldable pub beyond : Kind → OutOfRangeMode → ℕ → Bool → ℤ → Outcome
+beyond (integer s n) None v neg y = OutOfRange v (lowInt s n) (highInt s n)
+beyond (integer s n) Clamp v neg y = Stored (patternOf (integer s n) neg (nearerEnd (integer s n) y))
+beyond (integer s n) Wrap v neg y = Stored (patternOf (integer s n) neg y)
+beyond (binary p w s) None v neg y = overrun (binary p w s) p w v
+beyond (binary p w s) Clamp v neg y = Stored (infinity p w neg)
+beyond (binary p w s) Wrap v neg y = overrun (binary p w s) p w v
+
+-- "a zero result keeps a float element's sign": neg is that of the element
+abbrev pub ranged : Kind → OutOfRangeMode → ℕ → Bool → ℤ → Outcome
+ranged k r v neg y = cond (inRange k y) (Stored (patternOf k neg y)) (beyond k r v neg y)
+
+-- ---- the steps
+
+-- an element of the pattern b and the value v that no entry matches; "infinities pass" to a float kind
+abbrev pub converted : Settings → ℕ → Kind → Value → Outcome
+converted S b k (num x) = ranged k (S .range) (asF64 (S .from) b) (negative (S .from) b) (pick (gridOf k) (S .rule) x)
+converted S b (integer s n) (inf neg) = NanOrInf (asF64 (S .from) b)
+converted S b (integer s n) nan = NanOrInf (asF64 (S .from) b)
+converted S b (binary p w s) (inf neg) = Stored (infinity p w neg)
+converted S b (binary p w s) nan = Stored (nanPattern (S .from) p w b)
+
+unfoldable pub outcomeOf : Settings → ℕ → Outcome
+outcomeOf S b = let v = valueOf (S .from) b in mapped (S .from) v (S .entries) (converted S b (S .to) v)

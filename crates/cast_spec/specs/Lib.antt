@@ -1,0 +1,4 @@
+pub mod Element
+pub mod Chunk
+pub mod Demand3
+pub mod Samples

@@ -1,0 +1,31 @@
+-- `kinds::range_of` meets its contract.
+-- Assumes nothing.
+use mathlib.Core.Path.{_≡_, refl}
+use Prim.Native.Nat.{ℕ, zero, suc}
+use Rattle.kinds.specs.Codes.{rangeOf}
+use Rattle.kinds.specs.declared.OutOfRangeMode.the-variants.{Wrap}
+use borrow.Author.Needs.{needs}
+use Rattle.kinds.proofs.range_of.Statement.{statement}
+use Rattle.kinds.proofs.range_of.Tie as tie
+use Rattle.kinds.proofs.range_of.Reads as reads
+use Rattle.kinds.proofs.range_of.Lts as lts
+
+-- a code that is neither 0 nor 1
+rest : (n : ℕ) → (n ≡ 0 → ⊥) → (n ≡ 1 → ⊥) → Wrap ≡ rangeOf n
+rest zero a b = absurd (a refl)
+rest (suc zero) a b = absurd (b refl)
+rest (suc (suc n)) a b = refl
+
+returns : tie.Need-returns
+returns c = search needs
+
+-- src/lib.rt:222:1
+returns-2 : tie.Need-returns-2
+returns-2 c = search needs
+
+-- src/lib.rt:222:1
+returns-3 : tie.Need-returns-3
+returns-3 c = rest (c .before .args .code) (c .match .rest .0 .1) (c .match .rest .1)
+
+pub range-of-spec : {M : Type 1} → statement M
+range-of-spec = tie.close (tie.spec returns returns-2 returns-3)

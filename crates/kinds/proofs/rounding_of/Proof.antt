@@ -1,0 +1,41 @@
+-- `kinds::rounding_of` meets its contract.
+-- Assumes nothing.
+use mathlib.Core.Path.{_≡_, refl}
+use Prim.Native.Nat.{ℕ, zero, suc}
+use Rattle.grid.specs.declared.RoundingMode.the-variants.{NearestAway}
+use Rattle.kinds.specs.Codes.{roundingOf}
+use borrow.Author.Needs.{needs}
+use Rattle.kinds.proofs.rounding_of.Statement.{statement}
+use Rattle.kinds.proofs.rounding_of.Tie as tie
+use Rattle.kinds.proofs.rounding_of.Reads as reads
+use Rattle.kinds.proofs.rounding_of.Lts as lts
+
+-- a code that is none of 0 to 3
+rest : (n : ℕ) → (n ≡ 0 → ⊥) → (n ≡ 1 → ⊥) → (n ≡ 2 → ⊥) → (n ≡ 3 → ⊥) → NearestAway ≡ roundingOf n
+rest zero a b c d = absurd (a refl)
+rest (suc zero) a b c d = absurd (b refl)
+rest (suc (suc zero)) a b c d = absurd (c refl)
+rest (suc (suc (suc zero))) a b c d = absurd (d refl)
+rest (suc (suc (suc (suc n)))) a b c d = refl
+
+returns : tie.Need-returns
+returns c = search needs
+
+-- src/lib.rt:209:1
+returns-2 : tie.Need-returns-2
+returns-2 c = search needs
+
+-- src/lib.rt:209:1
+returns-3 : tie.Need-returns-3
+returns-3 c = search needs
+
+-- src/lib.rt:209:1
+returns-4 : tie.Need-returns-4
+returns-4 c = search needs
+
+-- src/lib.rt:209:1
+returns-5 : tie.Need-returns-5
+returns-5 c = let r = c .match .rest in rest (c .before .args .code) (r .0 .0 .0 .1) (r .0 .0 .1) (r .0 .1) (r .1)
+
+pub rounding-of-spec : {M : Type 1} → statement M
+rounding-of-spec = tie.close (tie.spec returns returns-2 returns-3 returns-4 returns-5)

@@ -1,0 +1,32 @@
+-- `kinds::row_of` meets its contract: the table is the rule's ten rows, which antt computes at once.
+-- Assumes nothing.
+use mathlib.Core.Path.{refl}
+use Prim.Native.Nat.{ℕ}
+use lib.Ieee.{size}
+use borrow.Author.Needs.{needs}
+use Rattle.grid.specs.Round.{pick}
+use Rattle.patterns.specs.Float.{bitsMag}
+use Rattle.patterns.specs.Value.{valueOf}
+use Rattle.patterns.specs.Pattern.{patternOf}
+use Rattle.kinds.specs.Codes.{kindOf}
+use Rattle.kinds.specs.Row.{rowOf}
+use Rattle.kinds.specs.declared.KindRow.{KindRow}
+use Rattle.kinds.proofs.Table.{row}
+use Rattle.kinds.proofs.row_of.Statement.{statement}
+use Rattle.kinds.proofs.row_of.Tie as tie
+
+abbrev rule : ℕ → KindRow
+rule code = rowOf (kindOf code)
+
+mul-result : tie.Need-mul-result
+mul-result c = search needs
+
+array-copy-out-result : tie.Need-array-copy-out-result
+array-copy-out-result c = search needs
+
+returns : tie.Need-returns
+unfolding rowOf valueOf patternOf pick bitsMag size
+returns c = row rule 10 _ _ refl (c .before .args .code) (c .before .pre)
+
+pub row-of-spec : {M : Type 1} → statement M
+row-of-spec = tie.close (tie.spec mul-result array-copy-out-result returns)

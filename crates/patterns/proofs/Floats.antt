@@ -1,0 +1,141 @@
+-- The number of a float kind's pattern, for any precision, exponent width and spacing. Assumes nothing.
+use mathlib.Core.Path.{_≡_, refl, sym, ap, ap₂, _∙_}
+use mathlib.Core.Bool.{Bool, true, false, cond}
+use Prim.Native.Nat.{ℕ, zero, suc, _+_, _-_, _*_, _/_, _%_, _^_, _≤_, _<_}
+use native.Mathlib.Nat.{le-trans, le-of-eq, lt-of-lt-of-le, mod-eq-of-lt, mul-lt-mul-of-pos-right, mul-le-mul-right, one-mul, le-max-left, mod-lt, mod-eq-sub-mod}
+use native.Mathlib.Omega.{arith}
+use lib.Arith.{digits-mod}
+use lib.Dec.{ltb, eqb}
+use lib.Ieee.{size}
+use lib.IntN.{ℤ, natAbs}
+use lib.Pow.{pow-pos, pow-mono, pow-add, suc-ones}
+use borrow.Author.Tests.{le-leb, lt-leb, lt-ltb, le-ltb, eq-eqb, ne-eqb}
+use Rattle.grid.specs.Grid.{float, OnMag}
+use Rattle.grid.specs.declared.RoundingMode.the-variants.{TowardsZero}
+use Rattle.grid.specs.Round.{pickMag, unitExp, signed}
+use Rattle.patterns.specs.Float.{fieldMag, bitsMag, infBits}
+use Rattle.grid.proofs.Neighbours.{cut, halved, kept-lt, kept-full}
+use Rattle.grid.proofs.Picked.{picked-pos}
+use Rattle.patterns.proofs.Encode.{encode, bits-mono}
+use Rattle.patterns.specs.Kind.{binary}
+use Rattle.patterns.specs.Value.{nan, inf, num, negative, floatValue, valueOf}
+use Rattle.patterns.specs.Pattern.{withSign, magBits, infinity}
+
+pub abs-signed : (neg : Bool) (m : ℕ) → natAbs (signed neg m) ≡ m
+abs-signed false m = refl
+abs-signed true zero = refl
+abs-signed true (suc m) = refl
+
+module _ (p w s : ℕ) (two : 2 ≤ p) (some : 0 < w) where
+  inf-lt : infBits p w < 2 ^ (w + p - 1)
+  inf-lt = lt-of-lt-of-le (mul-lt-mul-of-pos-right {n = 2 ^ w} (omega (arith, pow-pos w)) (pow-pos (p - 1))) (le-of-eq (sym (pow-add 2 w (p - 1)) ∙ ap (λ (z : ℕ). 2 ^ z) (omega arith)))
+
+  inf-pos : 0 < infBits p w
+  inf-pos = le-trans (pow-pos (p - 1)) (le-trans (le-of-eq (sym (one-mul (2 ^ (p - 1))))) (mul-le-mul-right (2 ^ (p - 1)) (omega (arith, pow-mono {i = 1} {j = w} some))))
+
+  -- ---- a sign over bits below it
+  module _ (neg : Bool) (x : ℕ) (h : x < 2 ^ (w + p - 1)) where
+    sign-is : negative (binary p w s) (withSign (w + p) neg x) ≡ neg
+    sign-is = go neg
+      where
+        go : (neg : Bool) → negative (binary p w s) (withSign (w + p) neg x) ≡ neg
+        go true = le-leb (2 ^ (w + p - 1)) (2 ^ (w + p - 1) + x) (omega arith)
+        go false = lt-leb (2 ^ (w + p - 1)) x h
+
+    below-is : withSign (w + p) neg x % 2 ^ (w + p - 1) ≡ x
+    below-is = go neg
+      where
+        go : (neg : Bool) → withSign (w + p) neg x % 2 ^ (w + p - 1) ≡ x
+        go true = ap (λ (z : ℕ). (z + x) % 2 ^ (w + p - 1)) (sym (one-mul (2 ^ (w + p - 1)))) ∙ digits-mod 1 h
+        go false = mod-eq-of-lt h
+
+    pub sign-lt : withSign (w + p) neg x < 2 ^ (w + p)
+    sign-lt = go neg
+      where
+        go : (neg : Bool) → withSign (w + p) neg x < 2 ^ (w + p)
+        go true = omega (arith, halved (w + p) (omega arith))
+        go false = omega (arith, halved (w + p) (omega arith))
+
+    read : valueOf (binary p w s) (withSign (w + p) neg x) ≡ floatValue p w s neg x
+    unfolding valueOf
+    read = ap₂ (floatValue p w s) sign-is below-is
+
+  -- ---- infinities
+  pub inf-back : (neg : Bool) → valueOf (binary p w s) (infinity p w neg) ≡ inf neg
+  inf-back neg = read neg (infBits p w) inf-lt ∙ simp (le-ltb (infBits p w) (infBits p w) (omega arith), eq-eqb (infBits p w) (infBits p w) refl)
+
+  pub inf-fits : (neg : Bool) → infinity p w neg < 2 ^ (w + p)
+  inf-fits neg = sign-lt neg (infBits p w) inf-lt
+
+  -- ---- NaNs: what `quiet` gives is above an infinity's bits, and below the sign
+  pub nan-back : (neg : Bool) (q : ℕ) → 0 < q → q < 2 ^ (p - 1) → valueOf (binary p w s) (withSign (w + p) neg (infBits p w + q)) ≡ nan
+  nan-back neg q h l = read neg (infBits p w + q) room ∙ simp (le-ltb (infBits p w + q) (infBits p w) (omega arith), ne-eqb (infBits p w + q) (infBits p w) (λ (e : infBits p w + q ≡ infBits p w). omega arith))
+    where
+      room : infBits p w + q < 2 ^ (w + p - 1)
+      room =
+          let a : suc (2 ^ w - 1) * 2 ^ (p - 1) ≡ 2 ^ (w + p - 1) = ap (λ (z : ℕ). z * 2 ^ (p - 1)) (suc-ones w) ∙ sym (pow-add 2 w (p - 1)) ∙ ap (λ (z : ℕ). 2 ^ z) (omega arith) in
+          omega arith
+
+  -- ---- a grid number's own bits
+  module _ (m : ℕ) (on : OnMag (float p s) m) where
+    whole-units : m / 2 ^ unitExp (float p s) m * 2 ^ unitExp (float p s) m ≡ m
+    unfolding pickMag
+    whole-units = ap natAbs (picked-pos (float p s) two TowardsZero m .itself on)
+
+    mag-back : bitsMag p s (magBits p s m) ≡ m
+    mag-back =
+        let e = unitExp (float p s) m in
+        encode p s (e - s) (m / 2 ^ e) (omega arith) (omega (arith, kept-lt p s m)) (λ (h : 0 < e - s). kept-full p s m two (omega arith))
+        ∙ ap (λ (z : ℕ). m / 2 ^ e * 2 ^ z) (back e s (le-max-left s (size m - p)))
+        ∙ whole-units
+      where
+        back : (k s : ℕ) → s ≤ k → k - s + s ≡ k
+        back k s l = omega arith
+
+    module _ (most : m ≤ bitsMag p s (infBits p w - 1)) where
+      mag-lt : magBits p s m < infBits p w
+      mag-lt = cut (magBits p s m) (infBits p w) (λ h. h)
+          (λ (h : infBits p w ≤ magBits p s m). absurd (omega (arith, mag-back, bits-mono p s (infBits p w - 1) (magBits p s m) (omega (arith, inf-pos)))))
+
+      pub number-back : (neg : Bool) → valueOf (binary p w s) (withSign (w + p) neg (magBits p s m)) ≡ num (signed neg m)
+      number-back neg = read neg (magBits p s m) (omega (arith, mag-lt, inf-lt)) ∙ simp (lt-ltb (magBits p s m) (infBits p w) mag-lt, mag-back)
+
+      pub number-fits : (neg : Bool) → withSign (w + p) neg (magBits p s m) < 2 ^ (w + p)
+      number-fits neg = sign-lt neg (magBits p s m) (omega (arith, mag-lt, inf-lt))
+
+  -- ---- bits are those of their own magnitude
+  pub on-bits : (x : ℕ) → OnMag (float p s) (bitsMag p s x)
+  unfolding bitsMag fieldMag
+  on-bits x = go (x / 2 ^ (p - 1)) (x % 2 ^ (p - 1)) (mod-lt x (pow-pos (p - 1)))
+    where
+      go : (f t : ℕ) → t < 2 ^ (p - 1) → OnMag (float p s) (fieldMag p s f t)
+      go zero t h = record { m = t; e = s; is = (omega (arith, halved p (omega arith)), omega arith, refl) }
+      go (suc f) t h = record { m = 2 ^ (p - 1) + t; e = f + s; is = (omega (arith, halved p (omega arith)), omega arith, refl) }
+
+  bits-again : (x : ℕ) → magBits p s (bitsMag p s x) ≡ x
+  bits-again x =
+      let y = magBits p s (bitsMag p s x) in
+      let e : bitsMag p s y ≡ bitsMag p s x = mag-back (bitsMag p s x) (on-bits x) in
+      cut y x (λ (h : y < x). absurd (omega (arith, bits-mono p s y x h))) (λ (h : x ≤ y). cut x y (λ (l : x < y). absurd (omega (arith, bits-mono p s x y l))) (λ (l : y ≤ x). omega arith))
+
+  signed-again : (b : ℕ) → b < 2 ^ (w + p) → withSign (w + p) (negative (binary p w s) b) (b % 2 ^ (w + p - 1)) ≡ b
+  signed-again b h = cut b (2 ^ (w + p - 1))
+      (λ (l : b < 2 ^ (w + p - 1)). ap₂ (withSign (w + p)) (lt-leb (2 ^ (w + p - 1)) b l) (mod-eq-of-lt l))
+      (λ (l : 2 ^ (w + p - 1) ≤ b). ap₂ (withSign (w + p)) (le-leb (2 ^ (w + p - 1)) b l) (mod-eq-sub-mod l ∙ mod-eq-of-lt (omega (arith, halved (w + p) (omega arith)))) ∙ omega arith)
+
+  pub float-again : (b : ℕ) (y : ℤ) → b < 2 ^ (w + p) → valueOf (binary p w s) b ≡ num y → withSign (w + p) (negative (binary p w s) b) (magBits p s (natAbs y)) ≡ b
+  unfolding valueOf
+  float-again b y h e = go (ltb x (infBits p w)) (eqb x (infBits p w)) e
+    where
+      x : ℕ
+      x = b % 2 ^ (w + p - 1)
+
+      neg : Bool
+      neg = negative (binary p w s) b
+
+      go : (c d : Bool) → cond c (num (signed neg (bitsMag p s x))) (cond d (inf neg) nan) ≡ num y → withSign (w + p) neg (magBits p s (natAbs y)) ≡ b
+      go true d e =
+          let f : signed neg (bitsMag p s x) ≡ y = cc in
+          ap (λ (z : ℕ). withSign (w + p) neg (magBits p s z)) (ap natAbs (sym f) ∙ abs-signed neg (bitsMag p s x)) ∙ ap (withSign (w + p) neg) (bits-again x) ∙ signed-again b h
+      go false true e = let z : _≡_ {A = ℕ} 0 1 = cc in absurd (omega arith)
+      go false false e = let z : _≡_ {A = ℕ} 0 1 = cc in absurd (omega arith)

@@ -1,0 +1,5 @@
+pub mod Encode
+pub mod Floats
+pub mod Integers
+pub mod Ieee
+pub mod AnyKind

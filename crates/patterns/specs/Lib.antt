@@ -1,0 +1,4 @@
+pub mod Float
+pub mod Kind
+pub mod Value
+pub mod Pattern
