@@ -11,8 +11,8 @@ use Rattle.bytes_le.specs.Bytes.{fromLe, toLe}
 use Rattle.bytes_le.proofs.Sums.{fromLe-append, fromLe-cons, length-toLe}
 
 -- ---- reading
-pub halved : (s : List ℕ) (k : ℕ) → length s ≡ k + k → fromLe (take k s) + fromLe (take k (drop k s)) * 256 ^ k ≡ fromLe s
-halved s k h =
+pub fromLe-halves : (s : List ℕ) (k : ℕ) → length s ≡ k + k → fromLe (take k s) + fromLe (take k (drop k s)) * 256 ^ k ≡ fromLe s
+fromLe-halves s k h =
     let a : take k (drop k s) ≡ drop k s = take-all k (drop k s) (simp length-drop (omega arith)) in
     let b : length (take k s) ≡ k = length-take-le k s (omega arith) in
     ap (λ (z : List ℕ). fromLe (take k s) + fromLe z * 256 ^ k) a

@@ -1,8 +1,10 @@
 -- Numbers as bytes, "each element lowest byte first".
 -- Assumes nothing.
-use mathlib.Core.List.{List, [], _∷_}
-use Prim.Native.Nat.{ℕ, zero, suc, _+_, _*_, _/_, _%_, _^_}
-use lib.ListN.{take, drop}
+use mathlib.Core.Path.{_≡_}
+use mathlib.Core.Logic.{_⊎_}
+use mathlib.Core.List.{List, [], _∷_, _++_}
+use Prim.Native.Nat.{ℕ, zero, suc, _+_, _*_, _/_, _%_, _^_, _≤_}
+use lib.ListN.{length, take, drop}
 
 -- the sum of the bytes, each times 256 to its place, the first of them at the place i
 abbrev pub sumFrom : ℕ → List ℕ → ℕ
@@ -20,3 +22,12 @@ toLe (suc n) v = v % 256 ∷ toLe n (v / 256)
 -- the bit pattern of the element at the position i of a chunk s of elements of w bytes
 abbrev pub patternAt : ℕ → List ℕ → ℕ → ℕ
 patternAt w s i = fromLe (take w (drop (i * w) s))
+
+-- d with the w lowest bytes of v at the place a
+abbrev pub put : List ℕ → ℕ → ℕ → ℕ → List ℕ
+put d a w v = take a d ++ (toLe w v ++ drop (a + w) d)
+
+-- w is the width of a kind, and w bytes at the place a lie within s
+pub record Place (s : List ℕ) (a w : ℕ) : Type 0 where
+  pub width : (w ≡ 1) ⊎ ((w ≡ 2) ⊎ ((w ≡ 4) ⊎ (w ≡ 8)))
+  pub within : a + w ≤ length s

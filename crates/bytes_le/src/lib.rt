@@ -1,8 +1,8 @@
-// Numbers as bytes, lowest first, by halves: what LLVM makes one load or one store.
+// Numbers as bytes, lowest first. Each width is read and written by halves, which compiles to one load or one store.
 ghost use mathlib.Core.Path.{_≡_};
-ghost use Prim.Native.Nat.{_+_, _<_, _^_};
-ghost use lib.ListN.{length};
-ghost use Rattle.bytes_le.specs.Bytes.{fromLe, toLe};
+ghost use Prim.Native.Nat.{_<_, _^_};
+ghost use lib.ListN.{length, take, drop};
+ghost use Rattle.bytes_le.specs.Bytes.{fromLe, toLe, Place, put};
 
 fn wide(x: u8) -> u64
     ensures { λ r. ⌜ (r ≡ x) × (r < 256) ⌝ }
@@ -67,4 +67,32 @@ pub fn put8(d: &mut [u8], v: u64)
 {
     put4(&mut d[0..4], v);
     put4(&mut d[4..8], v / 4294967296);
+}
+
+// The pattern of the width bytes at a place of s.
+pub fn read_le(s: &[u8], at: usize, width: usize) -> u64
+    requires { ⌜ Place (now s) at width ⌝ }
+    ensures { λ r. ⌜ (r ≡ fromLe (take width (drop at (now (s .entry))))) × (r < 256 ^ width) ⌝ }
+{
+    let end = at + width;
+    match width {
+        1 => get1(&s[at..end]),
+        2 => get2(&s[at..end]),
+        4 => get4(&s[at..end]),
+        _ => get8(&s[at..end]),
+    }
+}
+
+// Puts the width bytes of v at a place of d, and keeps every other byte.
+pub fn write_le(d: &mut [u8], at: usize, width: usize, v: u64)
+    requires { ⌜ Place (now d) at width ⌝ }
+    ensures { λ _. ⌜ now (d .exit) ≡ put (now (d .entry)) at width v ⌝ }
+{
+    let end = at + width;
+    match width {
+        1 => put1(&mut d[at..end], v),
+        2 => put2(&mut d[at..end], v),
+        4 => put4(&mut d[at..end], v),
+        _ => put8(&mut d[at..end], v),
+    }
 }

@@ -1,48 +1,36 @@
 -- The pick of m * 2 ^ e from m's own digits: what a program computes. Assumes nothing.
-use mathlib.Core.Path.{_≡_, refl, sym, ap, _∙_}
+use mathlib.Core.Path.{_≡_, refl, sym, ap, _∙_, subst}
 use mathlib.Core.Bool.{Bool, true, false}
 use Prim.Native.Nat.{ℕ, zero, suc, _+_, _-_, _*_, _/_, _%_, _^_, _≤_, _<_, max}
 use native.Mathlib.Nat.{le-trans, le-of-eq, lt-of-lt-of-le, div-add-mod', mul-div-mul-right, mul-le-mul-right, mul-lt-mul-of-pos-right, lt-of-mul-lt-mul-right, mul-assoc, mul-right-comm, mul-pos, add-left-cancel, le-antisymm, zero-mul}
 use native.Mathlib.Omega.{arith}
-use lib.Dec.{T, ltb, eqb, ltb→lt, lt→ltb, eqb·suc-zero}
 use lib.Ieee.{size}
 use lib.Ieee.Digits.{size-lt, size-le, size-reaches}
 use lib.IntN.{pos, negℤ, natAbs}
 use lib.Pow.{pow-pos, pow-mono, pow-add, shl-lt}
 use Rattle.grid.specs.declared.RoundingMode.{RoundingMode}
-use Rattle.grid.specs.declared.RoundingMode.the-variants.{NearestEven, TowardsZero, TowardsPositive, TowardsNegative, NearestAway}
 use Rattle.grid.specs.Grid.{Grid, whole, float, OnMag, Sound}
 use Rattle.grid.specs.Round.{unitExp, step, pickMag, pick, flip, signed, ruleFor}
 use Rattle.grid.proofs.Neighbours.{cut}
 use Rattle.grid.proofs.Picked.{picked-pos}
 use Rattle.grid.proofs.Order.{zero-on}
+use Rattle.grid.proofs.Step.{step-alike}
 
 -- ---- a step does not see the scale
-ext : (a b : Bool) → (T a → T b) → (T b → T a) → a ≡ b
-ext true true f g = refl
-ext true false f g = absurd (f tt)
-ext false true f g = absurd (g tt)
-ext false false f g = refl
-
-ltb-scale : (x y c : ℕ) → 0 < c → ltb (x * c) (y * c) ≡ ltb x y
-ltb-scale x y c h = ext (ltb (x * c) (y * c)) (ltb x y)
-    (λ t. lt→ltb x y (lt-of-mul-lt-mul-right c (ltb→lt (x * c) (y * c) t)))
-    (λ t. lt→ltb (x * c) (y * c) (mul-lt-mul-of-pos-right (ltb→lt x y t) h))
-
-eqb-scale : (x c : ℕ) → 0 < c → eqb (x * c) 0 ≡ eqb x 0
-eqb-scale zero c h = ap (λ (z : ℕ). eqb z 0) (zero-mul c)
-eqb-scale (suc x) c h = go (suc x * c) (mul-pos (omega arith) h) ∙ sym (eqb·suc-zero x)
-  where
-    go : (z : ℕ) → 0 < z → eqb z 0 ≡ false
-    go zero l = absurd (omega arith)
-    go (suc z) l = eqb·suc-zero z
-
 step-scale : (r : RoundingMode) (q x b c : ℕ) → 0 < c → step r q (x * c) (b * c) ≡ step r q x b
-step-scale NearestEven q x b c h = rw (mul-right-comm x c 2, ltb-scale (x * 2) b c h, ltb-scale b (x * 2) c h)
-step-scale TowardsZero q x b c h = refl
-step-scale TowardsPositive q x b c h = rw (eqb-scale x c h)
-step-scale TowardsNegative q x b c h = refl
-step-scale NearestAway q x b c h = rw (mul-right-comm x c 2, ltb-scale (x * 2) b c h)
+step-scale r q x b c h =
+    step-alike r q (x * c) (b * c) x b (none x) (λ (e : x ≡ 0). ap (λ (z : ℕ). z * c) e ∙ zero-mul c)
+    (λ l. lt-of-mul-lt-mul-right c (subst (λ (z : ℕ). z < b * c) twice l))
+    (λ l. subst (λ (z : ℕ). z < b * c) (sym twice) (mul-lt-mul-of-pos-right l h))
+    (λ l. lt-of-mul-lt-mul-right c (subst (λ (z : ℕ). b * c < z) twice l))
+    (λ l. subst (λ (z : ℕ). b * c < z) (sym twice) (mul-lt-mul-of-pos-right l h))
+  where
+    twice : x * c * 2 ≡ x * 2 * c
+    twice = mul-right-comm x c 2
+
+    none : (x : ℕ) → x * c ≡ 0 → x ≡ 0
+    none zero e = refl
+    none (suc x) e = absurd (omega (arith, mul-pos {m = suc x} (omega arith) h))
 
 -- ---- quotient and remainder of a scaled number
 mod-scale : (a b c : ℕ) → 0 < c → a * c % (b * c) ≡ a % b * c

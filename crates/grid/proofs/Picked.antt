@@ -1,11 +1,9 @@
 -- The computed pick is a pick, on either kind of grid and by each of the five rules. Assumes nothing.
-use mathlib.Core.Path.{_≡_, refl, sym, ap, subst, _∙_}
+use mathlib.Core.Path.{_≡_, sym, ap, subst, _∙_}
 use mathlib.Core.Logic.{_≢_, ⊎-elim}
-use mathlib.Core.Bool.{Bool, true, false, not, cond}
-use Prim.Native.Nat.{ℕ, zero, suc, _+_, _*_, _%_, _^_, _≤_, _<_}
+use Prim.Native.Nat.{ℕ, suc, _+_, _*_, _%_, _^_, _≤_, _<_}
 use native.Mathlib.Nat.{div-add-mod'}
 use native.Mathlib.Omega.{arith}
-use lib.Dec.{T, ltb, eqb, ltb→lt, nltb→le, eqb·suc-zero}
 use lib.IntN.{ℤ, pos, negsuc, negℤ, natAbs, negℤ-negℤ}
 use lib.Signed.{_≤ℤ_, _<ℤ_}
 use Rattle.grid.specs.declared.RoundingMode.{RoundingMode}
@@ -16,6 +14,7 @@ use Rattle.grid.specs.Round.{unitExp, step, pickMag, pick, flip}
 use Rattle.grid.proofs.Int.{ints, abs-is, dist-is, up-neg, dn-neg}
 use Rattle.grid.proofs.Order.{monotone, unique}
 use Rattle.grid.proofs.Neighbours.{Cell, cell}
+use Rattle.grid.proofs.Step.{by-lt, by-zero}
 
 -- a directed rule prefers nothing
 prefer : (g : Grid) (r : RoundingMode) (y z : ℤ) → (IsNearest r → Preferred g r y z) → Preferred g r y z
@@ -103,18 +102,6 @@ module _ {g : Grid} {n q u : ℕ} (r : RoundingMode) (c : Cell g n q u) where
         none : (z : ℤ) → OnGrid g z → pos n <ℤ z → z <ℤ pos (suc q * u) → ⊥
         none (pos m) on a b = ⊎-elim (λ (l : m ≤ q * u). omega ints) (λ (l : suc q * u ≤ m). omega ints) (c .gap m on)
         none (negsuc m) on a b = omega ints
-
--- ---- the two tests
-pub by-lt : (P : ℕ → Type 0) (a b x y : ℕ) → (a < b → P x) → (b ≤ a → P y) → P (cond (ltb a b) x y)
-by-lt P a b x y f g = go (ltb a b) (ltb→lt a b) (nltb→le a b)
-  where
-    go : (c : Bool) → (T c → a < b) → (T (not c) → b ≤ a) → P (cond c x y)
-    go true h k = f (h tt)
-    go false h k = g (k tt)
-
-pub by-zero : (P : ℕ → Type 0) (a x y : ℕ) → (a ≡ 0 → P x) → (0 < a → P y) → P (cond (eqb a 0) x y)
-by-zero P zero x y f g = f refl
-by-zero P (suc a) x y f g = subst (λ (c : Bool). P (cond c x y)) (sym (eqb·suc-zero a)) (g (omega arith))
 
 -- ---- a number that is not negative
 stepped : {g : Grid} {n q : ℕ} (u s : ℕ) → Cell g n q u → q * u + s ≡ n → (r : RoundingMode) → IsPick g r (pos n) (pos (step r q s u * u))
@@ -209,3 +196,6 @@ pick-mono g ok r x x′ h = monotone g r (picked g ok r x) (picked g ok r x′) 
 
 pub pick-only : (g : Grid) → Sound g → (r : RoundingMode) (x y : ℤ) → IsPick g r x y → y ≡ pick g r x
 pick-only g ok r x y P = unique g r P (picked g ok r x)
+
+pub pickMag-mono : (g : Grid) → Sound g → (r : RoundingMode) (a b : ℕ) → a ≤ b → pickMag g r a ≤ pickMag g r b
+pickMag-mono g ok r a b h = omega (ints, monotone g r (picked-pos g ok r a) (picked-pos g ok r b) (omega ints))

@@ -2,10 +2,10 @@
 use mathlib.Core.Path.{_≡_, refl, sym, ap, ap₂, _∙_}
 use Prim.Native.Nat.{ℕ, zero, suc, _+_, _-_, _*_, _/_, _%_, _^_, _≤_, _<_}
 use native.Mathlib.Decide.{le-ind}
-use native.Mathlib.Nat.{le-refl, le-of-eq, lt-of-lt-of-le, lt-of-le-of-lt, mul-lt-mul-of-pos-right, div-add-mod', mod-lt, zero-add, suc-add, lt-trans}
+use native.Mathlib.Nat.{le-refl, le-of-eq, lt-of-lt-of-le, lt-of-le-of-lt, mul-lt-mul-of-pos-right, div-add-mod', mod-lt, zero-add, suc-add, lt-trans, zero-mul}
 use native.Mathlib.Omega.{arith}
 use lib.Arith.{digits-div, digits-mod}
-use lib.Pow.{pow-pos}
+use lib.Pow.{pow-pos, pow-add}
 use Rattle.patterns.specs.Float.{fieldMag, bitsMag}
 use Rattle.grid.proofs.Neighbours.{cut, halved}
 
@@ -37,6 +37,23 @@ encode p s k q P small full = cut q (2 ^ (p - 1))
       where
         dbl : (i : ℕ) → 2 ^ suc i ≡ 2 * 2 ^ i
         dbl i = omega arith
+
+pub zero-bits : (p s : ℕ) → 2 ≤ p → bitsMag p s 0 ≡ 0
+zero-bits p s two = ap (bitsMag p s) (sym (none (2 ^ (p - 1)))) ∙ encode p s 0 0 (omega arith) (omega arith) (λ (h : 0 < 0). absurd (omega arith)) ∙ zero-mul (2 ^ (0 + s))
+  where
+    none : (h : ℕ) → 0 * h + 0 ≡ 0
+    none h = omega arith
+
+pub power-bits : (p s : ℕ) → 2 ≤ p → (k : ℕ) → bitsMag p s (suc k * 2 ^ (p - 1)) ≡ 2 ^ (p - 1 + (k + s))
+power-bits p s two k = ap (bitsMag p s) (turn k (2 ^ (p - 1))) ∙ encode p s k (2 ^ (p - 1)) (omega arith) (omega (arith, halved p (omega arith))) (λ _. omega arith) ∙ sym (pow-add 2 (p - 1) (k + s))
+  where
+    turn : (k h : ℕ) → suc k * h ≡ k * h + h
+    turn k h = omega arith
+
+-- bits whose exponent field is not 0
+pub normal-bits : (p s x y : ℕ) → x / 2 ^ (p - 1) ≡ suc y → bitsMag p s x ≡ (2 ^ (p - 1) + x % 2 ^ (p - 1)) * 2 ^ (y + s)
+unfolding bitsMag fieldMag
+normal-bits p s x y e = ap (λ (f : ℕ). fieldMag p s f (x % 2 ^ (p - 1))) e
 
 -- ---- the bits are in the order of the magnitudes
 inner : (p s x t : ℕ) → fieldMag p s x t < fieldMag p s x (suc t)

@@ -27,7 +27,7 @@ abs-signed true zero = refl
 abs-signed true (suc m) = refl
 
 module _ (p w s : ℕ) (two : 2 ≤ p) (some : 0 < w) where
-  inf-lt : infBits p w < 2 ^ (w + p - 1)
+  pub inf-lt : infBits p w < 2 ^ (w + p - 1)
   inf-lt = lt-of-lt-of-le (mul-lt-mul-of-pos-right {n = 2 ^ w} (omega (arith, pow-pos w)) (pow-pos (p - 1))) (le-of-eq (sym (pow-add 2 w (p - 1)) ∙ ap (λ (z : ℕ). 2 ^ z) (omega arith)))
 
   inf-pos : 0 < infBits p w
@@ -112,7 +112,7 @@ module _ (p w s : ℕ) (two : 2 ≤ p) (some : 0 < w) where
       go zero t h = record { m = t; e = s; is = (omega (arith, halved p (omega arith)), omega arith, refl) }
       go (suc f) t h = record { m = 2 ^ (p - 1) + t; e = f + s; is = (omega (arith, halved p (omega arith)), omega arith, refl) }
 
-  bits-again : (x : ℕ) → magBits p s (bitsMag p s x) ≡ x
+  pub bits-again : (x : ℕ) → magBits p s (bitsMag p s x) ≡ x
   bits-again x =
       let y = magBits p s (bitsMag p s x) in
       let e : bitsMag p s y ≡ bitsMag p s x = mag-back (bitsMag p s x) (on-bits x) in

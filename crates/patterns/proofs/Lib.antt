@@ -1,4 +1,5 @@
 pub mod Encode
+pub mod PickBits
 pub mod Floats
 pub mod Integers
 pub mod Ieee

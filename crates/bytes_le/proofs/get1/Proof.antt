@@ -3,23 +3,17 @@ use Prim.Native.Nat.{ℕ, _+_, _*_}
 use native.Mathlib.Omega.{arith}
 use denote.Ref.{now}
 use Rattle.bytes_le.specs.Bytes.{fromLe}
-use Rattle.bytes_le.proofs.Halves.{halved, one, set-one, put-halves}
+use Rattle.bytes_le.proofs.Halves.{fromLe-halves, one, set-one, put-halves}
 use borrow.Author.Needs.{needs}
 use Rattle.bytes_le.proofs.get1.Statement.{statement}
 use Rattle.bytes_le.proofs.get1.Tie as tie
-use Rattle.bytes_le.proofs.get1.Reads as reads
-use Rattle.bytes_le.proofs.get1.Lts as lts
-use Rattle.bytes_le.proofs.wide.Reads as wide-reads
 
--- src/lib.rt:17:10
 shared-slice-read-wide : tie.Need-shared-slice-read-wide
 shared-slice-read-wide c = search needs
 
--- src/lib.rt:17:5
 wide-requires : tie.Need-wide-requires
 wide-requires c κs = search needs
 
--- src/lib.rt:13:1
 returns : tie.Need-returns
 returns c = let t = c .before .before .before in (c .wide .ensures .0 ∙ one (now (t .args .s)) (t .pre), c .wide .ensures .1)
 

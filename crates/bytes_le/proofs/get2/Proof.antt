@@ -4,62 +4,48 @@ use native.Mathlib.Omega.{arith}
 use denote.Ref.{now}
 use lib.ListN.{take}
 use Rattle.bytes_le.specs.Bytes.{fromLe}
-use Rattle.bytes_le.proofs.Halves.{halved, one, set-one, put-halves}
+use Rattle.bytes_le.proofs.Halves.{fromLe-halves, one, set-one, put-halves}
 use borrow.Author.Needs.{needs}
 use Rattle.bytes_le.proofs.get2.Statement.{statement}
 use Rattle.bytes_le.proofs.get2.Tie as tie
-use Rattle.bytes_le.proofs.get2.Reads as reads
-use Rattle.bytes_le.proofs.get2.Lts as lts
-use Rattle.bytes_le.proofs.get1.Reads as get1-reads
 
--- src/lib.rt:24:10
 sub-get1 : tie.Need-sub-get1
 sub-get1 c = search needs
 
--- src/lib.rt:24:10
 part-get1-start : tie.Need-part-get1-start
 part-get1-start c = search needs
 
--- src/lib.rt:24:10
 part-get1-end : tie.Need-part-get1-end
 part-get1-end c = search needs
 
--- src/lib.rt:24:5
 get1-requires : tie.Need-get1-requires
 get1-requires c κs = search needs
 
--- src/lib.rt:24:27
 sub-get1-2 : tie.Need-sub-get1-2
 sub-get1-2 c = search needs
 
--- src/lib.rt:24:27
 part-get1-start-2 : tie.Need-part-get1-start-2
 part-get1-start-2 c = search needs
 
--- src/lib.rt:24:27
 part-get1-end-2 : tie.Need-part-get1-end-2
 part-get1-end-2 c = search needs
 
--- src/lib.rt:24:22
 get1-requires-2 : tie.Need-get1-requires-2
 get1-requires-2 c κs = search needs
 
--- src/lib.rt:24:22
 mul-result : tie.Need-mul-result
 mul-result c = search needs
 
--- src/lib.rt:24:5
 add-result : tie.Need-add-result
 add-result c = search needs
 
--- src/lib.rt:20:1
 returns : tie.Need-returns
 returns c =
     let t = c .before .before .before .before .before in
     let lo = c .before .before .get1 in
     let hi = c .get12 in
     let s = now (t .args .s) in
-    (ap (λ (x : ℕ). x + hi .result * 256) (lo .ensures .0) ∙ ap (λ (x : ℕ). fromLe (take 1 s) + x * 256) (hi .ensures .0) ∙ halved s 1 (t .pre), omega (arith, lo .ensures .1, hi .ensures .1))
+    (ap (λ (x : ℕ). x + hi .result * 256) (lo .ensures .0) ∙ ap (λ (x : ℕ). fromLe (take 1 s) + x * 256) (hi .ensures .0) ∙ fromLe-halves s 1 (t .pre), omega (arith, lo .ensures .1, hi .ensures .1))
 
 pub get2-spec : {M : Type 1} → statement M
 get2-spec =

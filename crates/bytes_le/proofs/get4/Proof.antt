@@ -4,62 +4,48 @@ use native.Mathlib.Omega.{arith}
 use denote.Ref.{now}
 use lib.ListN.{take}
 use Rattle.bytes_le.specs.Bytes.{fromLe}
-use Rattle.bytes_le.proofs.Halves.{halved, one, set-one, put-halves}
+use Rattle.bytes_le.proofs.Halves.{fromLe-halves, one, set-one, put-halves}
 use borrow.Author.Needs.{needs}
 use Rattle.bytes_le.proofs.get4.Statement.{statement}
 use Rattle.bytes_le.proofs.get4.Tie as tie
-use Rattle.bytes_le.proofs.get4.Reads as reads
-use Rattle.bytes_le.proofs.get4.Lts as lts
-use Rattle.bytes_le.proofs.get2.Reads as get2-reads
 
--- src/lib.rt:31:10
 sub-get2 : tie.Need-sub-get2
 sub-get2 c = search needs
 
--- src/lib.rt:31:10
 part-get2-start : tie.Need-part-get2-start
 part-get2-start c = search needs
 
--- src/lib.rt:31:10
 part-get2-end : tie.Need-part-get2-end
 part-get2-end c = search needs
 
--- src/lib.rt:31:5
 get2-requires : tie.Need-get2-requires
 get2-requires c κs = search needs
 
--- src/lib.rt:31:27
 sub-get2-2 : tie.Need-sub-get2-2
 sub-get2-2 c = search needs
 
--- src/lib.rt:31:27
 part-get2-start-2 : tie.Need-part-get2-start-2
 part-get2-start-2 c = search needs
 
--- src/lib.rt:31:27
 part-get2-end-2 : tie.Need-part-get2-end-2
 part-get2-end-2 c = search needs
 
--- src/lib.rt:31:22
 get2-requires-2 : tie.Need-get2-requires-2
 get2-requires-2 c κs = search needs
 
--- src/lib.rt:31:22
 mul-result : tie.Need-mul-result
 mul-result c = search needs
 
--- src/lib.rt:31:5
 add-result : tie.Need-add-result
 add-result c = search needs
 
--- src/lib.rt:27:1
 returns : tie.Need-returns
 returns c =
     let t = c .before .before .before .before .before in
     let lo = c .before .before .get2 in
     let hi = c .get22 in
     let s = now (t .args .s) in
-    (ap (λ (x : ℕ). x + hi .result * 65536) (lo .ensures .0) ∙ ap (λ (x : ℕ). fromLe (take 2 s) + x * 65536) (hi .ensures .0) ∙ halved s 2 (t .pre), omega (arith, lo .ensures .1, hi .ensures .1))
+    (ap (λ (x : ℕ). x + hi .result * 65536) (lo .ensures .0) ∙ ap (λ (x : ℕ). fromLe (take 2 s) + x * 65536) (hi .ensures .0) ∙ fromLe-halves s 2 (t .pre), omega (arith, lo .ensures .1, hi .ensures .1))
 
 pub get4-spec : {M : Type 1} → statement M
 get4-spec =

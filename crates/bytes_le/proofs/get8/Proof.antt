@@ -4,62 +4,48 @@ use native.Mathlib.Omega.{arith}
 use denote.Ref.{now}
 use lib.ListN.{take}
 use Rattle.bytes_le.specs.Bytes.{fromLe}
-use Rattle.bytes_le.proofs.Halves.{halved, one, set-one, put-halves}
+use Rattle.bytes_le.proofs.Halves.{fromLe-halves, one, set-one, put-halves}
 use borrow.Author.Needs.{needs}
 use Rattle.bytes_le.proofs.get8.Statement.{statement}
 use Rattle.bytes_le.proofs.get8.Tie as tie
-use Rattle.bytes_le.proofs.get8.Reads as reads
-use Rattle.bytes_le.proofs.get8.Lts as lts
-use Rattle.bytes_le.proofs.get4.Reads as get4-reads
 
--- src/lib.rt:38:10
 sub-get4 : tie.Need-sub-get4
 sub-get4 c = search needs
 
--- src/lib.rt:38:10
 part-get4-start : tie.Need-part-get4-start
 part-get4-start c = search needs
 
--- src/lib.rt:38:10
 part-get4-end : tie.Need-part-get4-end
 part-get4-end c = search needs
 
--- src/lib.rt:38:5
 get4-requires : tie.Need-get4-requires
 get4-requires c κs = search needs
 
--- src/lib.rt:38:27
 sub-get4-2 : tie.Need-sub-get4-2
 sub-get4-2 c = search needs
 
--- src/lib.rt:38:27
 part-get4-start-2 : tie.Need-part-get4-start-2
 part-get4-start-2 c = search needs
 
--- src/lib.rt:38:27
 part-get4-end-2 : tie.Need-part-get4-end-2
 part-get4-end-2 c = search needs
 
--- src/lib.rt:38:22
 get4-requires-2 : tie.Need-get4-requires-2
 get4-requires-2 c κs = search needs
 
--- src/lib.rt:38:22
 mul-result : tie.Need-mul-result
 mul-result c = search needs
 
--- src/lib.rt:38:5
 add-result : tie.Need-add-result
 add-result c = search needs
 
--- src/lib.rt:34:1
 returns : tie.Need-returns
 returns c =
     let t = c .before .before .before .before .before in
     let lo = c .before .before .get4 in
     let hi = c .get42 in
     let s = now (t .args .s) in
-    (ap (λ (x : ℕ). x + hi .result * 4294967296) (lo .ensures .0) ∙ ap (λ (x : ℕ). fromLe (take 4 s) + x * 4294967296) (hi .ensures .0) ∙ halved s 4 (t .pre), omega (arith, lo .ensures .1, hi .ensures .1))
+    (ap (λ (x : ℕ). x + hi .result * 4294967296) (lo .ensures .0) ∙ ap (λ (x : ℕ). fromLe (take 4 s) + x * 4294967296) (hi .ensures .0) ∙ fromLe-halves s 4 (t .pre), omega (arith, lo .ensures .1, hi .ensures .1))
 
 pub get8-spec : {M : Type 1} → statement M
 get8-spec =

@@ -3,26 +3,20 @@ use Prim.Native.Nat.{ℕ, _+_, _*_, _%_}
 use native.Mathlib.Omega.{arith}
 use denote.Ref.{now}
 use Rattle.bytes_le.specs.Bytes.{fromLe}
-use Rattle.bytes_le.proofs.Halves.{halved, one, set-one, put-halves}
+use Rattle.bytes_le.proofs.Halves.{fromLe-halves, one, set-one, put-halves}
 use borrow.Author.Needs.{needs}
 use Rattle.bytes_le.proofs.put1.Statement.{statement}
 use Rattle.bytes_le.proofs.put1.Tie as tie
-use Rattle.bytes_le.proofs.put1.Reads as reads
-use Rattle.bytes_le.proofs.put1.Lts as lts
 
--- src/lib.rt:45:12
 cast-d : tie.Need-cast-d
 cast-d c = search needs
 
--- src/lib.rt:45:5
 slice-write-d : tie.Need-slice-write-d
 slice-write-d c = search needs
 
--- src/lib.rt:41:1
 same-length : tie.Need-same-length
 same-length c = search needs
 
--- src/lib.rt:41:1
 returns : tie.Need-returns
 returns c = set-one (now (c .args .d)) (c .args .v % 256) (c .pre)
 

@@ -3,51 +3,38 @@ use Prim.Native.Nat.{ℕ, _+_, _*_}
 use native.Mathlib.Omega.{arith}
 use denote.Ref.{now}
 use Rattle.bytes_le.specs.Bytes.{fromLe}
-use Rattle.bytes_le.proofs.Halves.{halved, one, set-one, put-halves}
+use Rattle.bytes_le.proofs.Halves.{fromLe-halves, one, set-one, put-halves}
 use borrow.Author.Needs.{needs}
 use Rattle.bytes_le.proofs.put2.Statement.{statement}
 use Rattle.bytes_le.proofs.put2.Tie as tie
-use Rattle.bytes_le.proofs.put2.Reads as reads
-use Rattle.bytes_le.proofs.put2.Lts as lts
-use Rattle.bytes_le.proofs.put1.Reads as put1-reads
 
--- src/lib.rt:52:10
 sub-put1 : tie.Need-sub-put1
 sub-put1 c = search needs
 
--- src/lib.rt:52:10
 part-put1-start : tie.Need-part-put1-start
 part-put1-start c = search needs
 
--- src/lib.rt:52:10
 part-put1-end : tie.Need-part-put1-end
 part-put1-end c = search needs
 
--- src/lib.rt:52:5
 put1-requires : tie.Need-put1-requires
 put1-requires c κs = search needs
 
--- src/lib.rt:53:10
 sub-put1-2 : tie.Need-sub-put1-2
 sub-put1-2 c = search needs
 
--- src/lib.rt:53:10
 part-put1-start-2 : tie.Need-part-put1-start-2
 part-put1-start-2 c = search needs
 
--- src/lib.rt:53:10
 part-put1-end-2 : tie.Need-part-put1-end-2
 part-put1-end-2 c = search needs
 
--- src/lib.rt:53:5
 put1-requires-2 : tie.Need-put1-requires-2
 put1-requires-2 c κs = search needs
 
--- src/lib.rt:48:1
 same-length : tie.Need-same-length
 same-length c = search needs
 
--- src/lib.rt:48:1
 returns : tie.Need-returns
 returns c =
     let t = c .before .before .before .before .before .before .before .before .before in

@@ -3,51 +3,38 @@ use Prim.Native.Nat.{ℕ, _+_, _*_}
 use native.Mathlib.Omega.{arith}
 use denote.Ref.{now}
 use Rattle.bytes_le.specs.Bytes.{fromLe}
-use Rattle.bytes_le.proofs.Halves.{halved, one, set-one, put-halves}
+use Rattle.bytes_le.proofs.Halves.{fromLe-halves, one, set-one, put-halves}
 use borrow.Author.Needs.{needs}
 use Rattle.bytes_le.proofs.put8.Statement.{statement}
 use Rattle.bytes_le.proofs.put8.Tie as tie
-use Rattle.bytes_le.proofs.put8.Reads as reads
-use Rattle.bytes_le.proofs.put8.Lts as lts
-use Rattle.bytes_le.proofs.put4.Reads as put4-reads
 
--- src/lib.rt:68:10
 sub-put4 : tie.Need-sub-put4
 sub-put4 c = search needs
 
--- src/lib.rt:68:10
 part-put4-start : tie.Need-part-put4-start
 part-put4-start c = search needs
 
--- src/lib.rt:68:10
 part-put4-end : tie.Need-part-put4-end
 part-put4-end c = search needs
 
--- src/lib.rt:68:5
 put4-requires : tie.Need-put4-requires
 put4-requires c κs = search needs
 
--- src/lib.rt:69:10
 sub-put4-2 : tie.Need-sub-put4-2
 sub-put4-2 c = search needs
 
--- src/lib.rt:69:10
 part-put4-start-2 : tie.Need-part-put4-start-2
 part-put4-start-2 c = search needs
 
--- src/lib.rt:69:10
 part-put4-end-2 : tie.Need-part-put4-end-2
 part-put4-end-2 c = search needs
 
--- src/lib.rt:69:5
 put4-requires-2 : tie.Need-put4-requires-2
 put4-requires-2 c κs = search needs
 
--- src/lib.rt:64:1
 same-length : tie.Need-same-length
 same-length c = search needs
 
--- src/lib.rt:64:1
 returns : tie.Need-returns
 returns c =
     let t = c .before .before .before .before .before .before .before .before .before in

@@ -1,0 +1,133 @@
+-- The bits of a finite float, `lib.Ieee.toBits`, are the pattern of its number and its sign, at a zero too. Once for both formats. Assumes nothing.
+use mathlib.Core.Path.{_≡_, refl, sym, ap, ap₂, _∙_}
+use mathlib.Core.Bool.{Bool, true, false, not, cond, _&&_}
+use Prim.Native.Nat.{ℕ, zero, suc, _+_, _-_, _*_, _/_, _%_, _^_, _≤_, _<_, max}
+use native.Mathlib.Nat.{mul-assoc, mul-one, one-mul, mul-right-comm, mul-div-mul-right, mul-div-cancel, eq-of-mul-eq-mul-right, zero-mul, le-trans, le-of-eq, mul-le-mul-right}
+use native.Mathlib.Omega.{arith}
+use lib.Dec.{T, eqb, ltb, leb, eqb→eq, leb→le}
+use lib.IntN.{ℤ, pos, negsuc}
+use lib.Pow.{pow-pos, pow-add, pow-lt}
+use lib.Ieee.{Float, nan, inf, fin, Format, binary32, binary64, prec, emax, low, hid, top, up, down, size, fits, isNan, toBits}
+use lib.Ieee.Digits.{size-le}
+use lib.Ieee.Fits.{up-pos, down-pos, and-l, and-r}
+use lib.Ieee.Exact.{HasValue}
+use Rattle.grid.specs.Round.{signed}
+use Rattle.grid.proofs.Neighbours.{cut}
+use Rattle.grid.proofs.Kept.{size-shift}
+use Rattle.patterns.specs.Kind.{binary}
+use Rattle.patterns.specs.Pattern.{withSign, magBits, patternOf}
+use Rattle.patterns.proofs.Floats.{abs-signed}
+use Rattle.patterns.proofs.Ieee.{kindFor}
+
+-- the exponent of a format's smallest number, counted from 2^-1074
+abbrev pub spacing : Format → ℕ
+spacing binary32 = 925
+spacing binary64 = 0
+
+low-spacing : (f : Format) → low f + spacing f ≡ 1074
+low-spacing binary32 = refl
+low-spacing binary64 = refl
+
+-- ---- the bits below the sign, of a of the smallest numbers
+unit-exponent : (p s a : ℕ) → max s (size (a * 2 ^ s) - p) ≡ size a - p + s
+unit-exponent p s zero = ap (λ (z : ℕ). max s (size z - p)) (zero-mul (2 ^ s)) ∙ none (size 0) (size-le 0 0 (omega arith))
+  where
+    none : (z : ℕ) → z ≤ 0 → max s (z - p) ≡ z - p + s
+    none z h = omega arith
+unit-exponent p s (suc a) = ap (λ (z : ℕ). max s (z - p)) (size-shift (suc a) s (omega arith)) ∙ more (size (suc a))
+  where
+    more : (z : ℕ) → max s (z + s - p) ≡ z - p + s
+    more z = omega arith
+
+magBits-is : (p s a : ℕ) → magBits p s (a * 2 ^ s) ≡ (size a - p) * 2 ^ (p - 1) + a / 2 ^ (size a - p)
+magBits-is p s a =
+    let k = size a - p in
+    ap (λ (e : ℕ). (e - s) * 2 ^ (p - 1) + a * 2 ^ s / 2 ^ e) (unit-exponent p s a)
+    ∙ ap₂ (λ (x y : ℕ). x * 2 ^ (p - 1) + y) (over k) (ap (λ (z : ℕ). a * 2 ^ s / z) (pow-add 2 k s) ∙ mul-div-mul-right a (2 ^ k) (pow-pos s))
+  where
+    over : (k : ℕ) → k + s - s ≡ k
+    over k = omega arith
+
+-- ---- the language's bits
+toBits-is : (f : Format) (t : Bool) (m : ℕ) (e : ℤ) (a : ℕ) → m * up e * 2 ^ low f ≡ a * down e → toBits f (fin t m e) ≡ cond t (top f) 0 + (size a - prec f) * hid f + a / 2 ^ (size a - prec f)
+unfolding toBits
+toBits-is f t m e a h = ap (λ (n : ℕ). cond t (top f) 0 + (size n - prec f) * hid f + n / 2 ^ (size n - prec f)) (ap (λ (z : ℕ). z / down e) h ∙ mul-div-cancel a (down-pos e))
+
+over-sign : (t : Bool) (w x y : ℕ) → cond t w 0 + x + y ≡ cond t (w + (x + y)) (x + y)
+over-sign true w x y = omega arith
+over-sign false w x y = omega arith
+
+bits-are : (f : Format) (w s : ℕ) → top f ≡ 2 ^ (w + prec f - 1) → (t : Bool) (m : ℕ) (e : ℤ) (a : ℕ) → m * up e * 2 ^ low f ≡ a * down e
+    → toBits f (fin t m e) ≡ patternOf (binary (prec f) w s) t (signed t (a * 2 ^ s))
+unfolding patternOf
+bits-are f w s T t m e a h =
+    toBits-is f t m e a h
+    ∙ over-sign t (top f) ((size a - prec f) * hid f) (a / 2 ^ (size a - prec f))
+    ∙ ap (λ (z : ℕ). cond t (z + ((size a - prec f) * hid f + a / 2 ^ (size a - prec f))) ((size a - prec f) * hid f + a / 2 ^ (size a - prec f))) T
+    ∙ ap (withSign (w + prec f) t) (sym (ap (magBits (prec f) s) (abs-signed t (a * 2 ^ s)) ∙ magBits-is (prec f) s a))
+
+-- x is a of the format's smallest numbers
+pub toBits-of-units : (f : Format) (x : Float) (s : Bool) (a : ℕ) → HasValue x s a (2 ^ low f) → toBits f x ≡ patternOf (kindFor f) s (signed s (a * 2 ^ spacing f))
+toBits-of-units f nan s a h = absurd h
+toBits-of-units f (inf t) s a h = absurd h
+toBits-of-units f (fin t m e) s a h = go f (h .1) ∙ ap (λ (z : Bool). patternOf (kindFor f) z (signed z (a * 2 ^ spacing f))) (h .0)
+  where
+    go : (f : Format) → m * up e * 2 ^ low f ≡ a * down e → toBits f (fin t m e) ≡ patternOf (kindFor f) t (signed t (a * 2 ^ spacing f))
+    go binary32 h = bits-are binary32 8 925 refl t m e a h
+    go binary64 h = bits-are binary64 11 0 refl t m e a h
+
+-- ---- a whole number
+in-units : (x : Float) (s : Bool) (n l : ℕ) → HasValue x s n 1 → HasValue x s (n * 2 ^ l) (2 ^ l)
+in-units nan s n l h = absurd h
+in-units (inf t) s n l h = absurd h
+in-units (fin t m e) s n l h = (h .0, ap (λ (z : ℕ). z * 2 ^ l) (sym (mul-one (m * up e)) ∙ h .1) ∙ mul-right-comm n (down e) (2 ^ l))
+
+pub toBits-of-whole : (f : Format) (x : Float) (s : Bool) (n : ℕ) → HasValue x s n 1 → toBits f x ≡ patternOf (kindFor f) s (signed s (n * 2 ^ 1074))
+toBits-of-whole f x s n h =
+    toBits-of-units f x s (n * 2 ^ low f) (in-units x s n (low f) h)
+    ∙ ap (λ (z : ℕ). patternOf (kindFor f) s (signed s z)) (together n (low f) (spacing f) 1074 (low-spacing f))
+  where
+    together : (n l d k : ℕ) → l + d ≡ k → n * 2 ^ l * 2 ^ d ≡ n * 2 ^ k
+    together n l d k e = mul-assoc n (2 ^ l) (2 ^ d) ∙ ap (λ (z : ℕ). n * z) (sym (pow-add 2 l d) ∙ ap (λ (z : ℕ). 2 ^ z) e)
+
+-- ---- any finite float of the format
+power-le : (i j : ℕ) → 2 ^ i ≤ 2 ^ j → i ≤ j
+power-le i j h = cut j i (λ (l : j < i). absurd (omega (arith, pow-lt l))) (λ l. l)
+
+divides : (e : ℤ) (l : ℕ) → down e ≤ 2 ^ l → (c : ℕ) × (2 ^ l ≡ c * down e)
+divides (pos k) l h = (2 ^ l, sym (mul-one (2 ^ l)))
+divides (negsuc k) l h = (2 ^ (l - suc k), ap (λ (z : ℕ). 2 ^ z) (back (power-le (suc k) l h)) ∙ pow-add 2 (l - suc k) (suc k))
+  where
+    back : suc k ≤ l → l ≡ l - suc k + suc k
+    back h = omega arith
+
+down-small : (f : Format) (t : Bool) (m : ℕ) (e : ℤ) → T (fits f (fin t m e)) → down e ≤ 2 ^ low f
+unfolding fits
+down-small f t zero e h = le-trans (le-trans (le-of-eq (sym (one-mul (down e)))) (mul-le-mul-right (down e) (up-pos e))) (le-trans (le-of-eq (eqb→eq (up e * down e) 1 h)) (pow-pos (low f)))
+down-small f t (suc m) e h =
+    let A = eqb (suc m % 2) 1 && ltb (suc m) (2 ^ prec f) in
+    let C = leb (down e) (2 ^ low f) in
+    leb→le (down e) (2 ^ low f) (and-r A C (and-l (A && C) (ltb (suc m * up e) (2 ^ suc (emax f) * down e)) h))
+
+same-number : (v c n l s k d : ℕ) → 0 < d → l + s ≡ k → 2 ^ l ≡ c * d → v * 2 ^ k ≡ n * d → v * c * 2 ^ s ≡ n
+same-number v c n l s k d D e h i = eq-of-mul-eq-mul-right d D (v * c * 2 ^ s) n
+    (mul-right-comm (v * c) (2 ^ s) d
+    ∙ ap (λ (z : ℕ). z * 2 ^ s) (mul-assoc v c d ∙ ap (λ (z : ℕ). v * z) (sym h))
+    ∙ mul-assoc v (2 ^ l) (2 ^ s)
+    ∙ ap (λ (z : ℕ). v * z) (sym (pow-add 2 l s) ∙ ap (λ (z : ℕ). 2 ^ z) e)
+    ∙ i)
+
+pub toBits-is-patternOf : (f : Format) (x : Float) (s : Bool) (n : ℕ) → T (fits f x) → HasValue x s n (2 ^ 1074) → toBits f x ≡ patternOf (kindFor f) s (signed s n)
+toBits-is-patternOf f nan s n F h = absurd h
+toBits-is-patternOf f (inf t) s n F h = absurd h
+toBits-is-patternOf f (fin t m e) s n F h =
+    let c = divides e (low f) (down-small f t m e F) in
+    toBits-of-units f (fin t m e) s (m * up e * c .0) (h .0, ap (λ (z : ℕ). m * up e * z) (c .1) ∙ sym (mul-assoc (m * up e) (c .0) (down e)))
+    ∙ ap (λ (z : ℕ). patternOf (kindFor f) s (signed s z)) (same-number (m * up e) (c .0) n (low f) (spacing f) 1074 (down e) (down-pos e) (low-spacing f) (c .1) (h .1))
+
+-- ---- a float with a value is no NaN
+pub valued-no-nan : (x : Float) (s : Bool) (n d : ℕ) → HasValue x s n d → T (not (isNan x))
+unfolding isNan
+valued-no-nan nan s n d h = absurd h
+valued-no-nan (inf t) s n d h = tt
+valued-no-nan (fin t m e) s n d h = tt

@@ -1,0 +1,16 @@
+-- `integers::significant_bits` meets its contract: leading zeros and significant bits make 64.
+-- Assumes nothing.
+use native.Mathlib.Omega.{arith}
+use lib.Count.{leading-le}
+use Rattle.integers.proofs.Digits.{leading-size}
+use Rattle.integers.proofs.significant_bits.Statement.{statement}
+use Rattle.integers.proofs.significant_bits.Tie as tie
+
+sub-result : tie.Need-sub-result
+sub-result c = leading-le 64 (c .args .magnitude)
+
+returns : tie.Need-returns
+returns c = omega (arith, leading-size 64 (c .args .magnitude) (omega arith))
+
+pub significant-bits-spec : {M : Type 1} → statement M
+significant-bits-spec = tie.close (tie.spec sub-result returns)

@@ -1,0 +1,22 @@
+-- An integer rounded once to a float's precision: "The kept part plus one unit is added in f64 and is exact, so a carry may reach 2^64."
+-- Assumes nothing.
+use mathlib.Core.Bool.{Bool}
+use Prim.Native.Nat.{ℕ, _≤_}
+use lib.Dec.{ltb}
+use lib.Ieee.{Float}
+use lib.Ieee.Exact.{HasValue}
+use Rattle.grid.specs.declared.RoundingMode.{RoundingMode}
+use Rattle.grid.specs.Round.{step}
+
+-- "for at most 53 significant bits": a precision that has even and odd numbers, and that an f64 holds
+pub record Precision (digits : ℕ) : Type 0 where
+  pub least : 2 ≤ digits
+  pub most : digits ≤ 53
+
+-- the float x is finite, bears the sign, and is n in size: nothing is lost
+pub record Exactly (negative : Bool) (n : ℕ) (x : Float) : Type 0 where
+  pub value : HasValue x negative n 1
+
+-- q units and a rest are rounded to more than q units
+abbrev pub stepsUp : RoundingMode → ℕ → ℕ → ℕ → Bool
+stepsUp r q rest unit = ltb q (step r q rest unit)

@@ -1,0 +1,106 @@
+// An integer pattern's sign and magnitude, and an integer rounded once to a float's precision.
+ghost use mathlib.Core.Path.{_≡_};
+ghost use mathlib.Core.Bool.{false};
+ghost use Prim.Native.Nat.{_*_, _^_, _<_};
+ghost use lib.Ieee.{size};
+ghost use Rattle.grid.specs.Grid.{float};
+ghost use Rattle.grid.specs.Round.{pick, pickMag, ruleFor, signed};
+ghost use Rattle.patterns.specs.Kind.{f64};
+ghost use Rattle.patterns.specs.Pattern.{patternOf};
+ghost use Rattle.kinds.specs.Codes.{kindOf};
+ghost use Rattle.integers.specs.Magnitude.{IntegerPattern, magnitudeOf};
+ghost use Rattle.integers.specs.Precision.{Precision, Exactly, stepsUp};
+use grid::RoundingMode;
+
+// A whole number: its size, and whether it lies below zero.
+pub struct Integer {
+    pub negative: bool,
+    pub magnitude: u64,
+}
+
+// The sign and the magnitude of the pattern b of a listed integer kind.
+pub fn int_magnitude(b: u64, code: u8) -> Integer
+    requires { ⌜ IntegerPattern b code ⌝ }
+    ensures { λ r. ⌜ r ≡ magnitudeOf (kindOf code) b ⌝ }
+{
+    let row = kinds::row_of(code);
+    let half = 1u64 << (row.bits - 1);
+    if !row.signed {
+        return Integer {
+            negative: false,
+            magnitude: b,
+        };
+    }
+    if b < half {
+        return Integer {
+            negative: false,
+            magnitude: b,
+        };
+    }
+    Integer {
+        negative: true,
+        magnitude: half - (b - half),
+    }
+}
+
+// How many significant bits a magnitude has.
+pub fn significant_bits(magnitude: u64) -> u32
+    ensures { λ r. ⌜ r ≡ size magnitude ⌝ }
+{
+    64 - u64::leading_zeros(magnitude)
+}
+
+// Whether the magnitude of q units and a rest, of a number of this sign, goes up to q + 1 units.
+pub fn rounds_up(mode: RoundingMode, negative: bool, q: u64, rest: u64, unit: u64) -> bool
+    requires { ⌜ rest < unit ⌝ }
+    ensures { λ r. ⌜ r ≡ stepsUp (ruleFor negative mode) q rest unit ⌝ }
+{
+    let left = unit - rest;
+    match mode {
+        RoundingMode::NearestEven => left < rest + q % 2,
+        RoundingMode::TowardsZero => false,
+        RoundingMode::TowardsPositive => if negative { false } else { 0 < rest },
+        RoundingMode::TowardsNegative => if negative { 0 < rest } else { false },
+        RoundingMode::NearestAway => left <= rest,
+    }
+}
+
+// The magnitude rounded to `digits` significant bits: its kept part, and one unit more where the rule says so, added with no rounding.
+fn round_magnitude(magnitude: u64, negative: bool, digits: u32, mode: RoundingMode) -> f64
+    requires { ⌜ Precision digits ⌝ }
+    ensures { λ r. ⌜ Exactly false (pickMag (float digits 0) (ruleFor negative mode) magnitude) r ⌝ }
+{
+    let significant = significant_bits(magnitude);
+    if significant <= digits {
+        return std::num::nearest_u64_to_f64(magnitude);
+    }
+    let shift = significant - digits;
+    let q = magnitude >> shift;
+    let kept = q << shift;
+    let unit = 1u64 << shift;
+    let up = rounds_up(mode, negative, q, magnitude - kept, unit);
+    let more = if up { unit } else { 0 };
+    std::num::nearest_u64_to_f64(kept) + std::num::nearest_u64_to_f64(more)
+}
+
+// The integer rounded once to `digits` significant bits, as a float that holds it exactly. A zero keeps the sign that is given.
+pub fn round_int_to_precision(
+    magnitude: u64,
+    negative: bool,
+    digits: u32,
+    mode: RoundingMode,
+) -> f64
+    requires { ⌜ Precision digits ⌝ }
+    ensures { λ r. ⌜ Exactly negative (pickMag (float digits 0) (ruleFor negative mode) magnitude) r ⌝ }
+{
+    let x = round_magnitude(magnitude, negative, digits, mode);
+    if negative { -x } else { x }
+}
+
+// The f64 pattern of the integer rounded once to `digits` significant bits.
+pub fn int_to_f64_bits(magnitude: u64, negative: bool, digits: u32, mode: RoundingMode) -> u64
+    requires { ⌜ Precision digits ⌝ }
+    ensures { λ r. ⌜ r ≡ patternOf f64 negative (pick (float digits 0) mode (signed negative (magnitude * 2 ^ 1074))) ⌝ }
+{
+    f64::to_bits(round_int_to_precision(magnitude, negative, digits, mode))
+}

@@ -1,0 +1,5 @@
+pub mod Biased
+pub mod Carried
+pub mod Whole
+pub mod Patterns
+pub mod Narrow

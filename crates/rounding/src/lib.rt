@@ -1,0 +1,120 @@
+// Rounding by a rule on bits: digits dropped, a float to a whole number, an f64 to a narrower float.
+ghost use mathlib.Core.Path.{_≡_};
+ghost use Prim.Native.Nat.{_+_, _-_, _*_, _/_, _%_, _^_, _<_, _≤_, min};
+ghost use Rattle.grid.specs.Grid.{whole, float};
+ghost use Rattle.grid.specs.Round.{step, pickMag, ruleFor};
+ghost use Rattle.patterns.specs.Float.{bitsMag};
+ghost use Rattle.patterns.specs.Kind.{f32, f64};
+ghost use Rattle.rounding.specs.Rounding.{biasOf, Dropped, quartersOf, WholeIn, NarrowIn, roundedOf};
+use grid::RoundingMode;
+
+// What is added to a number before its lowest digits are dropped: q is the kept part, and h is all ones in the dropped digits.
+fn bias(q: u64, h: u64, mode: RoundingMode, negative: bool) -> u64
+    requires { ⌜ h < 2 ^ 63 ⌝ }
+    ensures { λ r. ⌜ r ≡ biasOf (ruleFor negative mode) q h ⌝ }
+{
+    match mode {
+        RoundingMode::NearestEven => h / 2 + q % 2,
+        RoundingMode::TowardsZero => 0,
+        RoundingMode::TowardsPositive => { if negative { 0 } else { h } }
+        RoundingMode::TowardsNegative => { if negative { h } else { 0 } }
+        RoundingMode::NearestAway => h - h / 2,
+    }
+}
+
+// The magnitude m of a number of the given sign, with its lowest j digits dropped by the rule.
+pub fn round_shift(m: u64, j: u32, mode: RoundingMode, negative: bool) -> u64
+    requires { ⌜ Dropped m j ⌝ }
+    ensures { λ r. ⌜ r ≡ step (ruleFor negative mode) (m / 2 ^ j) (m % 2 ^ j) (2 ^ j) ⌝ }
+{
+    let unit = 1u64 << j;
+    let q = m >> j;
+    (m + bias(q, unit - 1, mode, negative)) >> j
+}
+
+// The quarter of 1 that the bits x of a magnitude below 1 stand for, the odd ones for what lies between.
+fn quarters(x: u64, half: u64) -> u64
+    ensures { λ r. ⌜ r ≡ quartersOf x half ⌝ }
+{
+    if x == 0 {
+        0
+    } else if x < half {
+        1
+    } else if x == half {
+        2
+    } else {
+        3
+    }
+}
+
+// The bits x below a float's sign rounded to a whole number, where the float has p significant bits and the exponent field of 1 is one.
+fn round_magnitude(x: u64, p: u32, one: u64, mode: RoundingMode, negative: bool) -> u64
+    requires { ⌜ WholeIn x p one ⌝ }
+    ensures { λ r. ⌜ bitsMag p (1076 - (one + p)) r ≡ pickMag (whole 1074) (ruleFor negative mode) (bitsMag p (1076 - (one + p)) x) ⌝ }
+{
+    let d = p - 1;
+    let field = x >> d;
+    let all = one + (d as u64);
+    if all <= field {
+        return x;
+    }
+    if one <= field {
+        let j = (all - field) as u32;
+        return round_shift(x, j, mode, negative) << j;
+    }
+    round_shift(quarters(x, (one - 1) << d), 2, mode, negative) * (one << d)
+}
+
+// An f64 rounded to a whole number, as a pattern with the sign of b; 2^52 and more is whole already.
+pub fn round_with_mode_f64(b: u64, mode: RoundingMode) -> u64
+    ensures { λ r. ⌜ r ≡ roundedOf f64 mode b ⌝ }
+{
+    let magnitude = b & 0x7fff_ffff_ffff_ffff;
+    let negative = 0x8000_0000_0000_0000 <= b;
+    (b - magnitude) + round_magnitude(magnitude, 53, 1023, mode, negative)
+}
+
+// An f32 likewise; 2^23 and more is whole already.
+pub fn round_with_mode_f32(b: u32, mode: RoundingMode) -> u32
+    ensures { λ r. ⌜ r ≡ roundedOf f32 mode b ⌝ }
+{
+    let magnitude = b & 0x7fff_ffff;
+    let negative = 0x8000_0000 <= b;
+    (b - magnitude) + (round_magnitude(magnitude as u64, 24, 127, mode, negative) as u32)
+}
+
+// How many of 64 digits to drop where j are to go: dropping 63 of 53 leaves what dropping more would.
+fn at_most_63(j: u64) -> u32
+    ensures { λ r. ⌜ r ≡ min j 63 ⌝ }
+{
+    if j < 63 { j as u32 } else { 63 }
+}
+
+// The bits x below an f64's sign narrowed to a float of drop significant bits less, whose field of zeros begins base fields up.
+fn narrow_magnitude(x: u64, drop: u32, base: u64, mode: RoundingMode, negative: bool) -> u64
+    requires { ⌜ NarrowIn x drop base ⌝ }
+    ensures { λ r. ⌜ bitsMag (53 - drop) (base + drop) r ≡ pickMag (float (53 - drop) (base + drop)) (ruleFor negative mode) (bitsMag 53 0 x) ⌝ }
+{
+    let field = x >> 52;
+    if base < field {
+        return round_shift(x - (base << 52), drop, mode, negative);
+    }
+    let fraction = x & 0xf_ffff_ffff_ffff;
+    if field == 0 {
+        return round_shift(fraction, 63, mode, negative);
+    }
+    round_shift(
+        fraction + 0x10_0000_0000_0000,
+        at_most_63(base + (drop as u64) - (field - 1)),
+        mode,
+        negative,
+    )
+}
+
+// The bits below the sign of what an f64 of the bits x below its sign is as an f32; those of an infinity or more where it overruns.
+pub fn narrow_f32(x: u64, mode: RoundingMode, negative: bool) -> u64
+    requires { ⌜ x < 2 ^ 63 ⌝ }
+    ensures { λ r. ⌜ bitsMag 24 925 r ≡ pickMag (float 24 925) (ruleFor negative mode) (bitsMag 53 0 x) ⌝ }
+{
+    narrow_magnitude(x, 29, 896, mode, negative)
+}
