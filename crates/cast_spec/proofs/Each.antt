@@ -20,7 +20,7 @@ use Rattle.kinds.specs.declared.Outcome.the-variants.{Stored, NanOrInf, OutOfRa
 use Rattle.cast_spec.specs.Chunk.{Call, outcomeAt}
 use Rattle.cast_spec.specs.Demand3.{Taken, RefusedBy, Kept, Congruent, Handled, Rounded}
 use Rattle.kinds.specs.declared.Answer.{Answer}
-use Rattle.patterns.proofs.AnyKind.{sound, sign-of, pick-sign, int-back, int-fits, pattern-back, pattern-fits, low-is, unit-pos, multiple, ends-meet, high-on, low-on}
+use Rattle.patterns.proofs.AnyKind.{sound, sign-of, pick-sign, int-back, int-fits, pattern-back, pattern-fits, lowest-in, unit-pos, multiple, ends-meet, high-on, low-on}
 use Rattle.cast_spec.proofs.Steps.{outcome-is, by-range}
 use Rattle.patterns.proofs.Floats.{inf-back, inf-fits}
 use Rattle.patterns.proofs.Integers.{value-held, valueIn, wrapped}
@@ -66,7 +66,7 @@ congruent s n neg v y ok on e =
     let t = integers.wrapped s n (2 ^ 1074) ok unit-pos y (m .0) (m .1) in record {
       z = integers.valueIn s n (2 ^ 1074) b;
       is = e;
-      held = (subst (λ (z : ℤ). z ≤ℤ integers.valueIn s n (2 ^ 1074) b) (sym (low-is s n)) (h .0), h .1);
+      held = (subst (λ (z : ℤ). z ≤ℤ integers.valueIn s n (2 ^ 1074) b) (sym (lowest-in s n)) (h .0), h .1);
       turns = t .0;
       apart = t .1;
     }

@@ -19,7 +19,7 @@ use Rattle.cast_spec.specs.Chunk.{Inputs, callOf, answerOf, destinationO
 use Rattle.cast_spec.specs.Demand3.{Kept, Congruent, Handled, Rounded, Taken, Demand3}
 use Rattle.kinds.specs.declared.Answer.{Answer}
 use Rattle.patterns.proofs.Integers.{add-parts, up-times, dn-times, lowIn}
-use Rattle.patterns.proofs.AnyKind.{low-zero, high-zero, low-is, unit-pos}
+use Rattle.patterns.proofs.AnyKind.{low-zero, high-zero, lowest-in, unit-pos}
 use Rattle.cast_spec.proofs.Order.{below-zero, above-zero, refused}
 use Rattle.cast_spec.proofs.Demand3.{good, to-is, demand3}
 use Rattle.grid.specs.Round.{pick}
@@ -69,8 +69,8 @@ unfolding highest
 one-number s n v v′ y ok C D =
     C .is
     ∙ ap num (one (2 ^ n * 2 ^ 1074) y (C .z) (D .z) (C .turns) (D .turns) (C .apart) (D .apart)
-    (spread s n (2 ^ 1074) ok unit-pos (D .z) (C .z) (subst (λ (z : ℤ). z ≤ℤ D .z) (low-is s n) (D .held .0)) (C .held .1))
-    (spread s n (2 ^ 1074) ok unit-pos (C .z) (D .z) (subst (λ (z : ℤ). z ≤ℤ C .z) (low-is s n) (C .held .0)) (D .held .1)))
+    (spread s n (2 ^ 1074) ok unit-pos (D .z) (C .z) (subst (λ (z : ℤ). z ≤ℤ D .z) (lowest-in s n) (D .held .0)) (C .held .1))
+    (spread s n (2 ^ 1074) ok unit-pos (C .z) (D .z) (subst (λ (z : ℤ). z ≤ℤ C .z) (lowest-in s n) (C .held .0)) (D .held .1)))
     ∙ sym (D .is)
 
 -- ---- two accounts of one element that is not refused give it one result

@@ -5,10 +5,10 @@ use Prim.Native.Nat.{ℕ, _-_, _*_, _%_, _^_, _≤_, _<_}
 use native.Mathlib.Nat.{one-mul}
 use native.Mathlib.Omega.{arith}
 use lib.Dec.{lit<}
-use lib.Pow.{pow-pos, pow-mono, shl-exact}
-use borrow.Author.Tests.{lt-ltb, le-ltb, le-leb, lt-leb, leb-true, leb-false}
+use lib.Pow.{pow-pos, shl-exact}
+use borrow.Author.Tests.{le-leb, lt-leb, leb-true, leb-false}
 use Rattle.grid.specs.Round.{signed}
-use Rattle.grid.proofs.Neighbours.{cut, halved}
+use Rattle.grid.proofs.Neighbours.{halved}
 use Rattle.patterns.specs.Kind.{Kind, integer, bits, highInt}
 use Rattle.patterns.specs.Value.{num, negative, valueOf}
 use Rattle.kinds.specs.declared.KindRow.{KindRow}
@@ -16,6 +16,7 @@ use Rattle.kinds.specs.Codes.{kindOf}
 use Rattle.kinds.specs.Row.{rowOf}
 use Rattle.integers.specs.declared.Integer.{Integer}
 use Rattle.integers.specs.Magnitude.{magnitudeOf}
+use Rattle.kinds.proofs.Listed.{IntegerKind, bits-is, bits-most, bits-some, integer-kind, signed-is}
 
 -- ---- the sign and the magnitude are those of the number
 pub magnitude-value : (s : Bool) (n b : ℕ) → valueOf (integer s n) b ≡ num (signed (magnitudeOf (integer s n) b .negative) (magnitudeOf (integer s n) b .magnitude * 2 ^ 1074))
@@ -54,31 +55,6 @@ unfolding magnitudeOf
 positive-bound true n b h e = rw e (omega (arith, leb-false (2 ^ (n - 1)) b e))
 positive-bound false n b h e = omega arith
 
--- ---- the kinds of the codes 0 to 7
-pub record IntegerKind (k : Kind) : Type 0 where
-  pub s : Bool
-  pub n : ℕ
-  pub is : k ≡ integer s n
-  pub some : 0 < n
-  pub most : n ≤ 64
-
-pub integer-kind : (code : ℕ) → code < 8 → IntegerKind (kindOf code)
-integer-kind code h = cut code 4
-    (λ (l : code < 4). record {
-      s = true;
-      n = 8 * 2 ^ code;
-      is = simp (lt-ltb code 4 l);
-      some = omega (arith, pow-pos code);
-      most = omega (arith, pow-mono {i = code} {j = 3} (omega arith));
-    })
-    (λ (l : 4 ≤ code). record {
-      s = false;
-      n = 8 * 2 ^ (code - 4);
-      is = simp (le-ltb code 4 l, lt-ltb code 8 h);
-      some = omega (arith, pow-pos (code - 4));
-      most = omega (arith, pow-mono {i = code - 4} {j = 3} (omega arith));
-    })
-
 -- the law by the code
 pub coded-magnitude-value : (code b : ℕ) → code < 8 → valueOf (kindOf code) b ≡ num (signed (magnitudeOf (kindOf code) b .negative) (magnitudeOf (kindOf code) b .magnitude * 2 ^ 1074))
 coded-magnitude-value code b h =
@@ -95,35 +71,18 @@ not-false true e = refl
 not-false false e = sym e
 
 module _ (k : Kind) (i : IntegerKind k) (row : KindRow) (is : row ≡ rowOf k) where
-  row-is : row ≡ rowOf (integer (i .s) (i .n))
-  row-is = is ∙ ap rowOf (i .is)
-
-  bits-is : row .bits ≡ i .n
-  unfolding rowOf
-  bits-is = ap (λ (r : KindRow). r .bits) row-is
-
-  signed-is : row .signed ≡ i .s
-  unfolding rowOf
-  signed-is = ap (λ (r : KindRow). r .signed) row-is
-
-  pub bits-some : 0 < row .bits
-  bits-some = subst (λ (z : ℕ). 0 < z) (sym bits-is) (i .some)
-
-  pub bits-most : row .bits ≤ 64
-  bits-most = subst (λ (z : ℕ). z ≤ 64) (sym bits-is) (i .most)
-
   pub half-is : 1 * 2 ^ (row .bits - 1) % 2 ^ 64 ≡ 2 ^ (i .n - 1)
-  half-is = shl-exact 1 (row .bits - 1) 64 (lit< tt) (omega (arith, bits-some, bits-most)) ∙ one-mul (2 ^ (row .bits - 1)) ∙ ap (λ (z : ℕ). 2 ^ (z - 1)) bits-is
+  half-is = shl-exact 1 (row .bits - 1) 64 (lit< tt) (omega (arith, bits-some k i row is, bits-most k i row is)) ∙ one-mul (2 ^ (row .bits - 1)) ∙ ap (λ (z : ℕ). 2 ^ (z - 1)) (bits-is k i row is)
 
   module _ (b half : ℕ) (h : half ≡ 2 ^ (i .n - 1)) where
     pub unsigned-is : not (row .signed) ≡ true → record { negative = false; magnitude = b } ≡ magnitudeOf k b
-    unsigned-is e = sym (ap (λ (z : Kind). magnitudeOf z b) (i .is ∙ ap (λ (t : Bool). integer t (i .n)) (sym signed-is ∙ not-true (row .signed) e)) ∙ magnitude-of-unsigned (i .n) b)
+    unsigned-is e = sym (ap (λ (z : Kind). magnitudeOf z b) (i .is ∙ ap (λ (t : Bool). integer t (i .n)) (sym (signed-is k i row is) ∙ not-true (row .signed) e)) ∙ magnitude-of-unsigned (i .n) b)
 
     pub low-is : b < half → record { negative = false; magnitude = b } ≡ magnitudeOf k b
     low-is l = sym (ap (λ (z : Kind). magnitudeOf z b) (i .is) ∙ magnitude-of-low (i .s) (i .n) b (omega arith))
 
     pub high-is : not (row .signed) ≡ false → half ≤ b → record { negative = true; magnitude = half - (b - half) } ≡ magnitudeOf k b
-    high-is e l = sym (ap (λ (z : Kind). magnitudeOf z b) (i .is ∙ ap (λ (t : Bool). integer t (i .n)) (sym signed-is ∙ not-false (row .signed) e)) ∙ magnitude-of-high (i .n) b (omega arith)
+    high-is e l = sym (ap (λ (z : Kind). magnitudeOf z b) (i .is ∙ ap (λ (t : Bool). integer t (i .n)) (sym (signed-is k i row is) ∙ not-false (row .signed) e)) ∙ magnitude-of-high (i .n) b (omega arith)
         ∙ ap {B = Integer} (λ (m : ℕ). record { negative = true; magnitude = m }) (omega (arith, halved (i .n) (i .some))))
 
     pub high-fits : b < 2 ^ bits k → b - half ≤ half

@@ -90,10 +90,10 @@ unfolding highest
 high-on s n = on-unit (highInt s n)
 
 -- ---- the number of a pattern that is stored
-pub low-is : (s : Bool) (n : ℕ) → lowest (integer s n) ≡ lowIn s n (2 ^ 1074)
+pub lowest-in : (s : Bool) (n : ℕ) → lowest (integer s n) ≡ lowIn s n (2 ^ 1074)
 unfolding lowest
-low-is true n = refl
-low-is false n = refl
+lowest-in true n = refl
+lowest-in false n = refl
 
 pub unit-pos : 0 < 2 ^ 1074
 unit-pos = pow-pos 1074
@@ -105,7 +105,7 @@ pub int-back : (s : Bool) (n : ℕ) (neg : Bool) (y : ℤ) → 0 < n → OnGrid 
 unfolding valueOf patternOf highest
 int-back s n neg y ok on h =
     let m = multiple y on in
-    ap num (integers.back s n (2 ^ 1074) ok unit-pos y (m .0) (m .1) (subst (λ (z : ℤ). z ≤ℤ y) (low-is s n) (h .0)) (h .1))
+    ap num (integers.back s n (2 ^ 1074) ok unit-pos y (m .0) (m .1) (subst (λ (z : ℤ). z ≤ℤ y) (lowest-in s n) (h .0)) (h .1))
 
 pub int-fits : (s : Bool) (n : ℕ) (neg : Bool) (y : ℤ) → 0 < n → patternOf (integer s n) neg y < 2 ^ n
 unfolding patternOf

@@ -2,7 +2,7 @@
 use mathlib.Core.Path.{_≡_, refl, sym, ap, ap₂, _∙_}
 use Prim.Native.Nat.{ℕ, zero, suc, _+_, _-_, _*_, _/_, _%_, _^_, _≤_, _<_}
 use native.Mathlib.Decide.{le-ind}
-use native.Mathlib.Nat.{le-refl, le-of-eq, lt-of-lt-of-le, lt-of-le-of-lt, mul-lt-mul-of-pos-right, div-add-mod', mod-lt, zero-add, suc-add, lt-trans, zero-mul}
+use native.Mathlib.Nat.{le-refl, le-of-eq, lt-of-lt-of-le, lt-of-le-of-lt, mul-lt-mul-of-pos-right, div-add-mod', mod-lt, zero-add, suc-add, lt-trans, zero-mul, le-antisymm, le-of-lt}
 use native.Mathlib.Omega.{arith}
 use lib.Arith.{digits-div, digits-mod}
 use lib.Pow.{pow-pos, pow-add}
@@ -85,3 +85,6 @@ next-bits p s b =
 
 pub bits-mono : (p s a b : ℕ) → a < b → bitsMag p s a < bitsMag p s b
 bits-mono p s a b h = le-ind (λ (z : ℕ). bitsMag p s a < bitsMag p s z) (next-bits p s a) (λ m l ih. lt-trans ih (next-bits p s m)) b h
+
+pub bits-mono-le : (p s a b : ℕ) → a ≤ b → bitsMag p s a ≤ bitsMag p s b
+bits-mono-le p s a b h = cut a b (λ (l : a < b). le-of-lt (bits-mono p s a b l)) (λ (l : b ≤ a). le-of-eq (ap (bitsMag p s) (le-antisymm h l)))

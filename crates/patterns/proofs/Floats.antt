@@ -30,19 +30,19 @@ module _ (p w s : ℕ) (two : 2 ≤ p) (some : 0 < w) where
   pub inf-lt : infBits p w < 2 ^ (w + p - 1)
   inf-lt = lt-of-lt-of-le (mul-lt-mul-of-pos-right {n = 2 ^ w} (omega (arith, pow-pos w)) (pow-pos (p - 1))) (le-of-eq (sym (pow-add 2 w (p - 1)) ∙ ap (λ (z : ℕ). 2 ^ z) (omega arith)))
 
-  inf-pos : 0 < infBits p w
+  pub inf-pos : 0 < infBits p w
   inf-pos = le-trans (pow-pos (p - 1)) (le-trans (le-of-eq (sym (one-mul (2 ^ (p - 1))))) (mul-le-mul-right (2 ^ (p - 1)) (omega (arith, pow-mono {i = 1} {j = w} some))))
 
   -- ---- a sign over bits below it
   module _ (neg : Bool) (x : ℕ) (h : x < 2 ^ (w + p - 1)) where
-    sign-is : negative (binary p w s) (withSign (w + p) neg x) ≡ neg
+    pub sign-is : negative (binary p w s) (withSign (w + p) neg x) ≡ neg
     sign-is = go neg
       where
         go : (neg : Bool) → negative (binary p w s) (withSign (w + p) neg x) ≡ neg
         go true = le-leb (2 ^ (w + p - 1)) (2 ^ (w + p - 1) + x) (omega arith)
         go false = lt-leb (2 ^ (w + p - 1)) x h
 
-    below-is : withSign (w + p) neg x % 2 ^ (w + p - 1) ≡ x
+    pub below-is : withSign (w + p) neg x % 2 ^ (w + p - 1) ≡ x
     below-is = go neg
       where
         go : (neg : Bool) → withSign (w + p) neg x % 2 ^ (w + p - 1) ≡ x
@@ -56,7 +56,7 @@ module _ (p w s : ℕ) (two : 2 ≤ p) (some : 0 < w) where
         go true = omega (arith, halved (w + p) (omega arith))
         go false = omega (arith, halved (w + p) (omega arith))
 
-    read : valueOf (binary p w s) (withSign (w + p) neg x) ≡ floatValue p w s neg x
+    pub read : valueOf (binary p w s) (withSign (w + p) neg x) ≡ floatValue p w s neg x
     unfolding valueOf
     read = ap₂ (floatValue p w s) sign-is below-is
 
@@ -93,7 +93,7 @@ module _ (p w s : ℕ) (two : 2 ≤ p) (some : 0 < w) where
         back k s l = omega arith
 
     module _ (most : m ≤ bitsMag p s (infBits p w - 1)) where
-      mag-lt : magBits p s m < infBits p w
+      pub mag-lt : magBits p s m < infBits p w
       mag-lt = cut (magBits p s m) (infBits p w) (λ h. h)
           (λ (h : infBits p w ≤ magBits p s m). absurd (omega (arith, mag-back, bits-mono p s (infBits p w - 1) (magBits p s m) (omega (arith, inf-pos)))))
 
@@ -118,7 +118,7 @@ module _ (p w s : ℕ) (two : 2 ≤ p) (some : 0 < w) where
       let e : bitsMag p s y ≡ bitsMag p s x = mag-back (bitsMag p s x) (on-bits x) in
       cut y x (λ (h : y < x). absurd (omega (arith, bits-mono p s y x h))) (λ (h : x ≤ y). cut x y (λ (l : x < y). absurd (omega (arith, bits-mono p s x y l))) (λ (l : y ≤ x). omega arith))
 
-  signed-again : (b : ℕ) → b < 2 ^ (w + p) → withSign (w + p) (negative (binary p w s) b) (b % 2 ^ (w + p - 1)) ≡ b
+  pub signed-again : (b : ℕ) → b < 2 ^ (w + p) → withSign (w + p) (negative (binary p w s) b) (b % 2 ^ (w + p - 1)) ≡ b
   signed-again b h = cut b (2 ^ (w + p - 1))
       (λ (l : b < 2 ^ (w + p - 1)). ap₂ (withSign (w + p)) (lt-leb (2 ^ (w + p - 1)) b l) (mod-eq-of-lt l))
       (λ (l : 2 ^ (w + p - 1) ≤ b). ap₂ (withSign (w + p)) (le-leb (2 ^ (w + p - 1)) b l) (mod-eq-sub-mod l ∙ mod-eq-of-lt (omega (arith, halved (w + p) (omega arith)))) ∙ omega arith)

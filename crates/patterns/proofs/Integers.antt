@@ -33,7 +33,7 @@ minus : (s : Bool) (n u b : ℕ) → negative (integer s n) b ≡ true → value
 minus s n u b e = ap {B = ℤ} (λ (t : Bool). signed t (cond t (2 ^ n - b) b * u)) e
 
 -- ---- a multiple of u, over u
-below : (a q u : ℕ) → 0 < u → suc a ≡ suc q * u → a / u ≡ q
+pub below : (a q u : ℕ) → 0 < u → suc a ≡ suc q * u → a / u ≡ q
 below a q u h e = ap (λ (z : ℕ). z / u) (last a q u h e) ∙ digits-div q (less u h)
   where
     last : (a q u : ℕ) → 0 < u → suc a ≡ suc q * u → a ≡ q * u + (u - 1)

@@ -2,8 +2,8 @@
 -- Assumes nothing.
 use mathlib.Core.Path.{_≡_, refl, sym, ap, subst, _∙_}
 use mathlib.Core.Bool.{Bool, true, false, cond}
-use Prim.Native.Nat.{ℕ, _+_, _-_, _*_, _/_, _%_, _^_, _≤_, _<_}
-use native.Mathlib.Nat.{mod-lt, mod-eq-of-lt, mod-eq-sub-mod, le-div-iff-mul-le, div-add-mod', div-lt-iff-lt-mul, mul-le-mul-right}
+use Prim.Native.Nat.{ℕ, _+_, _-_, _*_, _/_, _%_, _^_, _≤_, _<_, suc}
+use native.Mathlib.Nat.{mod-lt, mod-eq-of-lt, mod-eq-sub-mod, le-div-iff-mul-le, div-add-mod', div-lt-iff-lt-mul, mul-le-mul-right, le-trans}
 use native.Mathlib.Omega.{arith}
 use lib.Bits.{bitAnd, and-mask}
 use lib.Dec.{ltb, leb, eqb, lit<, lit≤}
@@ -11,15 +11,15 @@ use lib.IntN.{natAbs}
 use lib.Pow.{pow-pos}
 use borrow.Author.Tests.{ltb-false, leb-false, leb-true}
 use Rattle.grid.proofs.Kept.{pick-signed}
-use Rattle.patterns.proofs.Encode.{bits-mono}
-use Rattle.patterns.proofs.Floats.{bits-again, inf-lt, abs-signed}
+use Rattle.patterns.proofs.Encode.{bits-mono, bits-mono-le}
+use Rattle.patterns.proofs.Floats.{bits-again, inf-lt, abs-signed, inf-pos}
 use Rattle.rounding.proofs.Whole.{whole-already}
 use Rattle.grid.specs.declared.RoundingMode.{RoundingMode}
 use Rattle.patterns.specs.Kind.{binary}
 use Rattle.patterns.specs.Float.{bitsMag, infBits}
 use Rattle.grid.proofs.Neighbours.{cut, halved}
 use Rattle.patterns.specs.Pattern.{magBits, patternOf, withSign}
-use Rattle.patterns.specs.Value.{inf, nan, num, valueOf}
+use Rattle.patterns.specs.Value.{num, inf, nan, valueOf}
 use Rattle.grid.specs.Round.{pick, pickMag, ruleFor, signed}
 use Rattle.grid.proofs.Picked.{pickMag-mono}
 use Rattle.rounding.specs.Rounding.{roundedFrom, roundedOf}
@@ -36,40 +36,43 @@ pub record Layout (p w s one : ℕ) : Type 0 where
   pub two : 2 ≤ p
   pub some : 0 < w
   pub at : s + one + p ≡ 1074 + 2
-  pub large : one + (p - 1) ≤ 2 ^ w - 1
+  pub large : one + (p - 1) < 2 ^ w - 1
   pub positive : 0 < one
 
 pub f64-layout : Layout 53 11 0 1023
-f64-layout = record { two = lit≤ tt; some = lit< tt; at = refl; large = lit≤ tt; positive = lit< tt }
+f64-layout = record { two = lit≤ tt; some = lit< tt; at = refl; large = lit< tt; positive = lit< tt }
 
 pub f32-layout : Layout 24 8 925 127
-f32-layout = record { two = lit≤ tt; some = lit< tt; at = refl; large = lit≤ tt; positive = lit< tt }
+f32-layout = record { two = lit≤ tt; some = lit< tt; at = refl; large = lit< tt; positive = lit< tt }
 
 module _ (p w s one : ℕ) (L : Layout p w s one) (r : RoundingMode) where
-  -- bits from an infinity's on stand for a whole number already
-  already-whole : (x : ℕ) → infBits p w ≤ x → pickMag (whole 1074) r (bitsMag p s x) ≡ bitsMag p s x
+  -- the bits before an infinity's, and all from there on, stand for a whole number already
+  already-whole : (x : ℕ) → infBits p w - 1 ≤ x → pickMag (whole 1074) r (bitsMag p s x) ≡ bitsMag p s x
   already-whole x h =
       let f = x / 2 ^ (p - 1) in
-      let F : 2 ^ w - 1 ≤ f = le-div-iff-mul-le (pow-pos (p - 1)) .1 h in
-      whole-already r 1074 p s one x (f - 1) (L .at) (omega arith) (omega arith)
+      let F : 2 ^ w - 2 ≤ f = le-div-iff-mul-le (pow-pos (p - 1)) .1 (le-trans (below-inf (2 ^ w - 1) (2 ^ w - 2) (2 ^ (p - 1)) (omega (arith, L .large)) (pow-pos (p - 1))) h) in
+      whole-already r 1074 p s one x (f - 1) (L .at) (omega (arith, L .large, L .positive)) (omega (arith, L .large, L .positive))
+    where
+      below-inf : (a b h : ℕ) → a ≡ suc b → 0 < h → b * h ≤ a * h - 1
+      below-inf a b h e k = subst (λ (z : ℕ). b * h ≤ z * h - 1) (sym e) (omega arith)
 
   same-bits : (a b : ℕ) → bitsMag p s a ≡ bitsMag p s b → a ≡ b
   same-bits a b e = sym (bits-again p w s (L .two) (L .some) a) ∙ ap (magBits p s) e ∙ bits-again p w s (L .two) (L .some) b
 
   module _ (x R : ℕ) (small : x < 2 ^ (w + p - 1)) (is : bitsMag p s R ≡ pickMag (whole 1074) r (bitsMag p s x)) where
     pub stays : infBits p w ≤ x → R ≡ x
-    stays h = same-bits R x (is ∙ already-whole x h)
+    stays h = same-bits R x (is ∙ already-whole x (omega arith))
 
-    not-past : x < infBits p w → R ≤ infBits p w
-    not-past h = cut (infBits p w) R
-        (λ (l : infBits p w < R).
-        let a : bitsMag p s (infBits p w) < bitsMag p s R = bits-mono p s (infBits p w) R l in
-        let b : bitsMag p s R ≤ bitsMag p s (infBits p w) = subst (λ (z : ℕ). z ≤ bitsMag p s (infBits p w)) (sym is) (subst (λ (z : ℕ). pickMag (whole 1074) r (bitsMag p s x) ≤ z) (already-whole (infBits p w) (omega arith)) (pickMag-mono (whole 1074) tt r (bitsMag p s x) (bitsMag p s (infBits p w)) (omega (arith, bits-mono p s x (infBits p w) h)))) in
+    pub stays-finite : x < infBits p w → R < infBits p w
+    stays-finite h = cut R (infBits p w) (λ l. l)
+        (λ (l : infBits p w ≤ R).
+        let M = infBits p w - 1 in
+        let a : bitsMag p s M < bitsMag p s R = bits-mono p s M R (omega (arith, inf-pos p w s (L .two) (L .some))) in
+        let b : bitsMag p s R ≤ bitsMag p s M = subst (λ (z : ℕ). z ≤ bitsMag p s M) (sym is) (subst (λ (z : ℕ). pickMag (whole 1074) r (bitsMag p s x) ≤ z) (already-whole M (omega arith)) (pickMag-mono (whole 1074) tt r (bitsMag p s x) (bitsMag p s M) (bits-mono-le p s x M (omega arith)))) in
         absurd (omega arith))
-        (λ l. l)
 
     pub rounded-lt : R < 2 ^ (w + p - 1)
-    rounded-lt = cut x (infBits p w) (λ h. omega (arith, not-past h, inf-lt p w s (L .two) (L .some))) (λ h. subst (λ (z : ℕ). z < 2 ^ (w + p - 1)) (sym (stays h)) small)
+    rounded-lt = cut x (infBits p w) (λ h. omega (arith, stays-finite h, inf-lt p w s (L .two) (L .some))) (λ h. subst (λ (z : ℕ). z < 2 ^ (w + p - 1)) (sym (stays h)) small)
 
 -- ---- the pattern
 module _ (p w s one : ℕ) (L : Layout p w s one) (mode : RoundingMode) (b R : ℕ) (fits : b < 2 ^ (w + p))

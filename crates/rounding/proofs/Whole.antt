@@ -264,14 +264,14 @@ module _ (r : RoundingMode) (x p one : ℕ) (ask : WholeIn x p one) where
     below : (w ≤ 1) × (bitsMag p spacing (w * (one * 2 ^ (p - 1))) ≡ pickMag (whole 1074) r (bitsMag p spacing x))
     below = whole-below r 1074 p spacing one x (ask .some) (ask .two) at-one w (div-lt-iff-lt-mul (pow-pos (p - 1)) .0 under) stepped
 
-    pub below-fits : w * (one * 2 ^ (p - 1) % 2 ^ 64) < 2 ^ 64
-    below-fits = go w (below .0)
+    pub below-one-fits : w * (one * 2 ^ (p - 1) % 2 ^ 64) < 2 ^ 64
+    below-one-fits = go w (below .0)
       where
         go : (w : ℕ) → w ≤ 1 → w * (one * 2 ^ (p - 1) % 2 ^ 64) < 2 ^ 64
         go zero h = omega (arith, zero-mul (one * 2 ^ (p - 1) % 2 ^ 64))
         go (suc zero) h = omega (arith, one-mul (one * 2 ^ (p - 1) % 2 ^ 64), mod-lt (one * 2 ^ (p - 1)) {m = 2 ^ 64} (lit< tt))
         go (suc (suc w)) h = absurd (omega arith)
 
-    pub below-is : bitsMag p (1076 - (one + p)) (w * (one * 2 ^ (p - 1) % 2 ^ 64)) ≡ pickMag (whole 1074) r (bitsMag p (1076 - (one + p)) x)
+    pub below-one-is : bitsMag p (1076 - (one + p)) (w * (one * 2 ^ (p - 1) % 2 ^ 64)) ≡ pickMag (whole 1074) r (bitsMag p (1076 - (one + p)) x)
     unfolding spacing
-    below-is = ap (λ (z : ℕ). bitsMag p spacing (w * z)) (multiple-mod one (ask .most)) ∙ below .1
+    below-one-is = ap (λ (z : ℕ). bitsMag p spacing (w * z)) (multiple-mod one (ask .most)) ∙ below .1

@@ -3,7 +3,8 @@
 use native.Mathlib.Omega.{arith}
 use borrow.Author.Needs.{needs}
 use Rattle.kinds.specs.Codes.{kindOf}
-use Rattle.integers.proofs.Magnitudes.{integer-kind, bits-some, bits-most, half-is, unsigned-is, low-is, high-is, high-fits}
+use Rattle.kinds.proofs.Listed.{integer-kind, bits-some, bits-most}
+use Rattle.integers.proofs.Magnitudes.{half-is, unsigned-is, low-is, high-is, high-fits}
 use Rattle.integers.proofs.int_magnitude.Statement.{statement}
 use Rattle.integers.proofs.int_magnitude.Tie as tie
 

@@ -1,7 +1,7 @@
 -- `rounding::round_magnitude` meets its contract: at each return one of the three laws of a rounding to a whole number.
 -- Assumes nothing.
 use Rattle.grid.specs.Round.{ruleFor}
-use Rattle.rounding.proofs.Whole.{already, kept-asks, kept-is, quarter-asks, below-fits, below-is}
+use Rattle.rounding.proofs.Whole.{already, kept-asks, kept-is, quarter-asks, below-one-fits, below-one-is}
 use borrow.Author.Needs.{needs}
 use Rattle.rounding.proofs.round_magnitude.Statement.{statement}
 use Rattle.rounding.proofs.round_magnitude.Tie as tie
@@ -79,13 +79,13 @@ mul-result : tie.Need-mul-result
 mul-result c =
     let t = c .before .before .before .before in
     let a = t .args in
-    record { fits = below-fits (ruleFor (a .negative) (a .mode)) (a .x) (a .p) (a .one) (t .pre) (c .before .quarters .result) (c .round-shift2 .result) (c .before .quarters .ensures) (c .round-shift2 .ensures) (c .before .before .if2 .left) }
+    record { fits = below-one-fits (ruleFor (a .negative) (a .mode)) (a .x) (a .p) (a .one) (t .pre) (c .before .quarters .result) (c .round-shift2 .result) (c .before .quarters .ensures) (c .round-shift2 .ensures) (c .before .before .if2 .left) }
 
 returns-3 : tie.Need-returns-3
 returns-3 c =
     let t = c .before .before .before .before in
     let a = t .args in
-    below-is (ruleFor (a .negative) (a .mode)) (a .x) (a .p) (a .one) (t .pre) (c .before .quarters .result) (c .round-shift2 .result) (c .before .quarters .ensures) (c .round-shift2 .ensures) (c .before .before .if2 .left)
+    below-one-is (ruleFor (a .negative) (a .mode)) (a .x) (a .p) (a .one) (t .pre) (c .before .quarters .result) (c .round-shift2 .result) (c .before .quarters .ensures) (c .round-shift2 .ensures) (c .before .before .if2 .left)
 
 pub round-magnitude-spec : {M : Type 1} → statement M
 round-magnitude-spec =

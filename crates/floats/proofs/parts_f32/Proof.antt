@@ -1,0 +1,20 @@
+-- `floats::parts_f32` meets its contract: shifts and masks are quotients and remainders of powers of two.
+-- Assumes nothing.
+use Prim.Native.Nat.{_/_, _^_}
+use native.Mathlib.Omega.{arith}
+use lib.Bits.{mask-lt}
+use Rattle.floats.proofs.Fields.{parts-is}
+use Rattle.floats.proofs.parts_f32.Statement.{statement}
+use Rattle.floats.proofs.parts_f32.Tie as tie
+
+cast-t6 : tie.Need-cast-t6
+cast-t6 c = omega (arith, mask-lt (c .args .b / 2 ^ 23) 8)
+
+cast-t8 : tie.Need-cast-t8
+cast-t8 c = omega (arith, mask-lt (c .args .b) 23)
+
+returns : tie.Need-returns
+returns c = parts-is 24 8 (c .args .b) (omega arith) (omega arith)
+
+pub parts-f32-spec : {M : Type 1} → statement M
+parts-f32-spec = tie.close (tie.spec cast-t6 cast-t8 returns)

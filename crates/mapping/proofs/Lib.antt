@@ -1,0 +1,5 @@
+pub mod Equal
+pub mod Floats
+pub mod Integers
+pub mod Codes
+pub mod Entries

@@ -1,0 +1,52 @@
+-- The scalar map as a lookup, and what the functions over it ask of their inputs.
+-- Assumes nothing.
+use mathlib.Core.Path.{_≡_}
+use mathlib.Core.Logic.{_⊎_}
+use mathlib.Core.Bool.{cond}
+use mathlib.Core.List.{List, [], _∷_}
+use Prim.Native.Nat.{ℕ, _*_, _^_, _≤_, _<_}
+use lib.ListN.{length}
+use Rattle.patterns.specs.Kind.{Kind, bits}
+use Rattle.patterns.specs.Value.{Value, valueOf}
+use Rattle.kinds.specs.Codes.{kindOf}
+use Rattle.kinds.specs.declared.Outcome.{Outcome}
+use Rattle.kinds.specs.declared.Outcome.the-variants.{Stored}
+use Rattle.cast_spec.specs.Element.{Entry, matches}
+use Rattle.cast_spec.specs.Chunk.{width}
+use Rattle.mapping.specs.declared.Lookup.{Lookup}
+use Rattle.mapping.specs.declared.Lookup.the-variants.{Found, Missing}
+
+-- "The first matching entry wins. .. The target is handed out unchanged and is not range-checked."
+abbrev pub lookupOf : Kind → Value → List Entry → Lookup
+lookupOf k v [] = Missing
+lookupOf k v (e ∷ es) = cond (matches v (valueOf k (e .key))) (Found (e .target)) (lookupOf k v es)
+
+-- what an element comes to, where o is the outcome of one that no entry matches
+abbrev pub foundOr : Lookup → Outcome → Outcome
+foundOr (Found t) o = Stored t
+foundOr Missing o = o
+
+-- "8, 9: f32, f64": two patterns of such a kind
+pub record FloatPatterns (a key code : ℕ) : Type 0 where
+  pub float : 8 ≤ code
+  pub listed : code < 10
+  pub fits : a < 2 ^ bits (kindOf code)
+  pub key-fits : key < 2 ^ bits (kindOf code)
+
+-- "map keys (source kind) and map targets (target kind) are bytes": a pattern b of the source kind, n keys of that kind, and n targets of dw bytes each
+pub record MapBytes (b : ℕ) (keys targets : List ℕ) (n from dw : ℕ) : Type 0 where
+  pub fits : b < 2 ^ bits (kindOf from)
+  pub target-width : (dw ≡ 1) ⊎ ((dw ≡ 2) ⊎ ((dw ≡ 4) ⊎ (dw ≡ 8)))
+  pub whole-keys : length keys ≡ n * width (kindOf from)
+  pub whole-targets : length targets ≡ n * dw
+
+-- the source is a float kind
+pub record FloatMap (b : ℕ) (keys targets : List ℕ) (n from dw : ℕ) : Type 0 where
+  pub float : 8 ≤ from
+  pub listed : from < 10
+  pub bytes : MapBytes b keys targets n from dw
+
+-- the source is an integer kind: "0, 1, 2, 3: i8, i16, i32, i64; 4, 5, 6, 7: u8, u16, u32, u64"
+pub record IntegerMap (b : ℕ) (keys targets : List ℕ) (n from dw : ℕ) : Type 0 where
+  pub listed : from < 8
+  pub bytes : MapBytes b keys targets n from dw
