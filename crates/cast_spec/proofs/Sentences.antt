@@ -3,19 +3,19 @@ use mathlib.Core.Path.{_≡_, refl, sym, ap, subst}
 use mathlib.Core.Logic.{_≢_}
 use mathlib.Core.Bool.{true}
 use Prim.Native.Nat.{ℕ, _+_, _-_, _*_, _/_, _%_, _^_, _≤_, _<_}
-use native.Mathlib.Nat.{le-trans, lt-of-lt-of-le, mod-lt}
+use native.Mathlib.Nat.{mod-lt}
 use native.Mathlib.Omega.{arith}
 use lib.Dec.{lit≤}
 use lib.IntN.{ℤ, pos, negℤ, natAbs}
 use lib.Pow.{pow-pos, pow-mono}
 use lib.Signed.{_≤ℤ_}
 use borrow.Author.Tests.{ne-eqb}
-use Rattle.grid.specs.Grid.{Grid, float, OnMag, OnGrid, Sound}
+use Rattle.grid.specs.Grid.{float, OnMag}
 use Rattle.grid.specs.declared.RoundingMode.{RoundingMode}
 use Rattle.grid.specs.Round.{pick}
 use Rattle.patterns.specs.Float.{bitsMag, infBits}
 use Rattle.grid.proofs.Int.{ints, up-neg, dn-neg, abs-is}
-use Rattle.grid.proofs.Picked.{picked, pick-mono}
+use Rattle.grid.proofs.Picked.{pick-mono, pick-own}
 use Rattle.grid.proofs.Neighbours.{halved}
 use Rattle.patterns.specs.Kind.{binary, lowest, highest, InRange}
 use Rattle.patterns.specs.Value.{nan, negative, valueOf}
@@ -34,13 +34,6 @@ nan-stays p w s p′ w′ s′ b ne two some = simp (ne-eqb p p′ ne) (floats.n
         less : (p : ℕ) → 2 ≤ p → p - 1 - 1 ≡ p - 2
         less p h = omega arith
 
--- "Widening and same-kind float casts are exact": a number of a grid is one of every finer grid, and is its own pick
-pub finer : (p s p′ s′ n : ℕ) → p ≤ p′ → s′ ≤ s → OnMag (float p s) n → OnMag (float p′ s′) n
-finer p s p′ s′ n a b on = record { m = on .m; e = on .e; is = (lt-of-lt-of-le (on .is .0) (pow-mono a), le-trans b (on .is .1), on .is .2) }
-
-pub exact : (g : Grid) → Sound g → (r : RoundingMode) (x : ℤ) → OnGrid g x → pick g r x ≡ x
-exact g ok r x on = picked g ok r x .itself on
-
 -- "From an integer kind no float target of these two overruns": a magnitude of at most 2 ^ 64 has a pick of at most that
 pub no-overrun : (p w s : ℕ) → 2 ≤ p → s ≤ 64 + 1074 → 2 ^ (64 + 1074) ≤ bitsMag p s (infBits p w - 1) → (r : RoundingMode) (x : ℤ) → natAbs x ≤ 2 ^ (64 + 1074) → InRange (binary p w s) (pick (float p s) r x)
 unfolding lowest highest
@@ -48,7 +41,7 @@ no-overrun p w s two fine room r x h =
     let m = 2 ^ (64 + 1074) in
     let on : OnMag (float p s) m = record { m = 1; e = 64 + 1074; is = (pow-mono {i = 1} {j = p} (omega arith), fine, refl) } in
     let M = bitsMag p s (infBits p w - 1) in
-    inside m M x r (exact (float p s) two r (pos m) on) (exact (float p s) two r (negℤ (pos m)) (subst (λ (z : ℕ). OnMag (float p s) z) (sym (floats.abs-signed true m)) on)) room h
+    inside m M x r (pick-own (float p s) two r (pos m) on) (pick-own (float p s) two r (negℤ (pos m)) (subst (λ (z : ℕ). OnMag (float p s) z) (sym (floats.abs-signed true m)) on)) room h
   where
     inside : (m M : ℕ) (x : ℤ) (r : RoundingMode) → pick (float p s) r (pos m) ≡ pos m → pick (float p s) r (negℤ (pos m)) ≡ negℤ (pos m) → m ≤ M → natAbs x ≤ m → (negℤ (pos M) ≤ℤ pick (float p s) r x) × (pick (float p s) r x ≤ℤ pos M)
     inside m M x r a b k h =

@@ -8,33 +8,24 @@ use native.Mathlib.Omega.{arith}
 use lib.Bits.{bitAnd, and-mask, mask-lt}
 use lib.Count.{leadingZeros, leading-top}
 use lib.Dec.{leb, lit≤}
-use lib.IntN.{ℤ}
 use lib.Pow.{pow-pos, pow-mono, pow-add, shl-lt}
 use borrow.Author.Tests.{le-leb, lt-leb}
-use Rattle.grid.specs.Grid.{Grid, float, OnMag, OnGrid, Sound}
-use Rattle.grid.specs.Round.{pick, signed}
-use Rattle.grid.specs.declared.RoundingMode.{RoundingMode}
+use Rattle.grid.specs.Grid.{float, OnMag}
+use Rattle.grid.specs.Round.{signed}
 use Rattle.grid.specs.declared.RoundingMode.the-variants.{NearestEven}
-use Rattle.grid.proofs.Neighbours.{cut, halved}
-use Rattle.grid.proofs.Picked.{picked}
+use Rattle.grid.proofs.Neighbours.{cut, halved, finer}
 use Rattle.patterns.specs.Float.{fieldMag, bitsMag, infBits}
 use Rattle.patterns.specs.Kind.{binary, f32, f64}
 use Rattle.patterns.specs.Value.{negative, valueOf}
 use Rattle.patterns.specs.Pattern.{withSign, magBits, patternOf, infinity, quiet, nanPattern, asF64, asF64From}
 use Rattle.patterns.proofs.Encode.{encode}
-use Rattle.patterns.proofs.Floats.{abs-signed}
-use Rattle.patterns.proofs.Floats as floats
+use Rattle.patterns.proofs.Floats.{abs-signed, bits-again, on-bits}
 use Rattle.floats.specs.Parts.{fieldOf, fractionOf, partsOf}
 use Rattle.floats.specs.declared.Parts.{Parts}
 use Rattle.floats.proofs.Fields.{exponent-is, fields-mag, fraction-lt, finite-bits, infinite-bits, nan-bits, is-num, is-inf, is-nan}
+use Rattle.grid.proofs.Picked.{pick-own}
+use Rattle.patterns.proofs.Floats as floats
 use Rattle.floats.proofs.Fields as fields
-
--- ---- "Widening and same-kind float casts are exact": a number of a grid is one of every finer grid, and is its own pick
-pub finer : (p s p′ s′ n : ℕ) → p ≤ p′ → s′ ≤ s → OnMag (float p s) n → OnMag (float p′ s′) n
-finer p s p′ s′ n a b on = record { m = on .m; e = on .e; is = (lt-of-lt-of-le (on .is .0) (pow-mono a), le-trans b (on .is .1), on .is .2) }
-
-pub exact : (g : Grid) → Sound g → (r : RoundingMode) (x : ℤ) → OnGrid g x → pick g r x ≡ x
-exact g ok r x on = picked g ok r x .itself on
 
 -- ---- the bits of a magnitude in a format of p bits and smallest spacing 2 ^ s
 module _ (p s : ℕ) (two : 2 ≤ p) where
@@ -129,7 +120,7 @@ module _ (p w s b : ℕ) (two : 2 ≤ p) (some : 0 < w) where
       let m = bitsMag p s low in
       let on : OnMag (float 53 0) m = finer p s 53 0 m few (omega arith) (floats.on-bits p w s two some low) in
       ap (asF64From (binary p w s) b) (is-num p w s neg low h)
-      ∙ ap (patternOf f64 neg) (exact (float 53 0) (lit≤ tt) NearestEven (signed neg m) (subst (λ (z : ℕ). OnMag (float 53 0) z) (sym (abs-signed neg m)) on))
+      ∙ ap (patternOf f64 neg) (pick-own (float 53 0) (lit≤ tt) NearestEven (signed neg m) (subst (λ (z : ℕ). OnMag (float 53 0) z) (sym (abs-signed neg m)) on))
       ∙ ap (λ (z : ℕ). withSign 64 neg (magBits 53 0 z)) (abs-signed neg m)
 
   pub as-infinity : b % 2 ^ (w + p - 1) ≡ infBits p w → asF64 (binary p w s) b ≡ infinity 53 11 (negative (binary p w s) b)

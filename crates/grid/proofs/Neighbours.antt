@@ -190,3 +190,7 @@ cell-float p s n two =
 pub cell : (g : Grid) → Sound g → (n : ℕ) → Cell g n (n / 2 ^ unitExp g n) (2 ^ unitExp g n)
 cell (whole k) h n = cell-whole k n
 cell (float p s) h n = cell-float p s n h
+
+-- ---- a number of a float's grid is one of every finer grid
+pub finer : (p s p′ s′ n : ℕ) → p ≤ p′ → s′ ≤ s → OnMag (float p s) n → OnMag (float p′ s′) n
+finer p s p′ s′ n a b on = record { m = on .m; e = on .e; is = (lt-of-lt-of-le (on .is .0) (pow-mono a), le-trans b (on .is .1), on .is .2) }

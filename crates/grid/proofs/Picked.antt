@@ -199,3 +199,7 @@ pick-only g ok r x y P = unique g r P (picked g ok r x)
 
 pub pickMag-mono : (g : Grid) → Sound g → (r : RoundingMode) (a b : ℕ) → a ≤ b → pickMag g r a ≤ pickMag g r b
 pickMag-mono g ok r a b h = omega (ints, monotone g r (picked-pos g ok r a) (picked-pos g ok r b) (omega ints))
+
+-- a grid number is its own pick
+pub pick-own : (g : Grid) → Sound g → (r : RoundingMode) (x : ℤ) → OnGrid g x → pick g r x ≡ x
+pick-own g ok r x on = picked g ok r x .itself on

@@ -114,19 +114,19 @@ int-fits s n neg y ok = integers.low-bits-lt s n (2 ^ 1074) ok unit-pos (shrZ y 
 abs-le : (M : ℕ) (y : ℤ) → negℤ (pos M) ≤ℤ y → y ≤ℤ pos M → natAbs y ≤ M
 abs-le M y l h = omega (ints, abs-is y, one-part y, up-neg (pos M), dn-neg (pos M))
 
-most : (p w s : ℕ) (y : ℤ) → InRange (binary p w s) y → natAbs y ≤ bitsMag p s (infBits p w - 1)
+pub largest-bits : (p w s : ℕ) (y : ℤ) → InRange (binary p w s) y → natAbs y ≤ bitsMag p s (infBits p w - 1)
 unfolding lowest highest
-most p w s y h = abs-le (bitsMag p s (infBits p w - 1)) y (h .0) (h .1)
+largest-bits p w s y h = abs-le (bitsMag p s (infBits p w - 1)) y (h .0) (h .1)
 
 pub pattern-back : (k : Kind) (neg : Bool) (y : ℤ) → WellFormed k → OnGrid (gridOf k) y → InRange k y → y ≡ signed neg (natAbs y) → valueOf k (patternOf k neg y) ≡ num y
 unfolding patternOf
 pattern-back (integer s n) neg y ok on h e = int-back s n neg y ok on h
-pattern-back (binary p w s) neg y ok on h e = floats.number-back p w s (ok .0) (ok .1) (natAbs y) on (most p w s y h) neg ∙ ap num (sym e)
+pattern-back (binary p w s) neg y ok on h e = floats.number-back p w s (ok .0) (ok .1) (natAbs y) on (largest-bits p w s y h) neg ∙ ap num (sym e)
 
 pub pattern-fits : (k : Kind) (neg : Bool) (y : ℤ) → WellFormed k → OnGrid (gridOf k) y → InRange k y → patternOf k neg y < 2 ^ bits k
 unfolding patternOf
 pattern-fits (integer s n) neg y ok on h = int-fits s n neg y ok
-pattern-fits (binary p w s) neg y ok on h = floats.number-fits p w s (ok .0) (ok .1) (natAbs y) on (most p w s y h) neg
+pattern-fits (binary p w s) neg y ok on h = floats.number-fits p w s (ok .0) (ok .1) (natAbs y) on (largest-bits p w s y h) neg
 
 -- ---- a pattern with the number y and the sign neg is the one that `patternOf` gives
 pub pattern-only : (k : Kind) (b : ℕ) (neg : Bool) (y : ℤ) → WellFormed k → b < 2 ^ bits k → valueOf k b ≡ num y → negative k b ≡ neg → b ≡ patternOf k neg y

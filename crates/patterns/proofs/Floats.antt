@@ -1,5 +1,5 @@
 -- The number of a float kind's pattern, for any precision, exponent width and spacing. Assumes nothing.
-use mathlib.Core.Path.{_≡_, refl, sym, ap, ap₂, _∙_}
+use mathlib.Core.Path.{_≡_, refl, sym, ap, ap₂, _∙_, subst}
 use mathlib.Core.Bool.{Bool, true, false, cond}
 use Prim.Native.Nat.{ℕ, zero, suc, _+_, _-_, _*_, _/_, _%_, _^_, _≤_, _<_}
 use native.Mathlib.Nat.{le-trans, le-of-eq, lt-of-lt-of-le, mod-eq-of-lt, mul-lt-mul-of-pos-right, mul-le-mul-right, one-mul, le-max-left, mod-lt, mod-eq-sub-mod}
@@ -7,19 +7,21 @@ use native.Mathlib.Omega.{arith}
 use lib.Arith.{digits-mod}
 use lib.Dec.{ltb, eqb}
 use lib.Ieee.{size}
-use lib.IntN.{ℤ, natAbs}
+use lib.IntN.{ℤ, natAbs, negℤ, pos}
 use lib.Pow.{pow-pos, pow-mono, pow-add, suc-ones}
-use borrow.Author.Tests.{le-leb, lt-leb, lt-ltb, le-ltb, eq-eqb, ne-eqb}
-use Rattle.grid.specs.Grid.{float, OnMag}
+use lib.Signed.{_≤ℤ_}
+use borrow.Author.Tests.{le-leb, lt-leb, lt-ltb, le-ltb, eq-eqb, ne-eqb, ltb-true}
+use Rattle.grid.specs.Grid.{float, OnMag, OnGrid}
 use Rattle.grid.specs.declared.RoundingMode.the-variants.{TowardsZero}
 use Rattle.grid.specs.Round.{pickMag, unitExp, signed}
 use Rattle.patterns.specs.Float.{fieldMag, bitsMag, infBits}
 use Rattle.grid.proofs.Neighbours.{cut, halved, kept-lt, kept-full}
 use Rattle.grid.proofs.Picked.{picked-pos}
-use Rattle.patterns.proofs.Encode.{encode, bits-mono}
-use Rattle.patterns.specs.Kind.{binary}
+use Rattle.patterns.proofs.Encode.{encode, bits-mono, bits-mono-le}
+use Rattle.patterns.specs.Kind.{binary, InRange, highest, lowest}
 use Rattle.patterns.specs.Value.{nan, inf, num, negative, floatValue, valueOf}
 use Rattle.patterns.specs.Pattern.{withSign, magBits, infinity}
+use Rattle.grid.proofs.Int.{dn-neg, ints, up-neg}
 
 pub abs-signed : (neg : Bool) (m : ℕ) → natAbs (signed neg m) ≡ m
 abs-signed false m = refl
@@ -103,6 +105,17 @@ module _ (p w s : ℕ) (two : 2 ≤ p) (some : 0 < w) where
       pub number-fits : (neg : Bool) → withSign (w + p) neg (magBits p s m) < 2 ^ (w + p)
       number-fits neg = sign-lt neg (magBits p s m) (omega (arith, mag-lt, inf-lt))
 
+  -- ---- the number of a finite pattern
+  pub finite-parts : (b : ℕ) (x : ℤ) → valueOf (binary p w s) b ≡ num x → (b % 2 ^ (w + p - 1) < infBits p w) × (x ≡ signed (negative (binary p w s) b) (bitsMag p s (b % 2 ^ (w + p - 1))))
+  unfolding valueOf
+  finite-parts b x is = go (ltb (b % 2 ^ (w + p - 1)) (infBits p w)) (eqb (b % 2 ^ (w + p - 1)) (infBits p w)) refl is
+    where
+      go : (c d : Bool) → ltb (b % 2 ^ (w + p - 1)) (infBits p w) ≡ c → cond c (num (signed (negative (binary p w s) b) (bitsMag p s (b % 2 ^ (w + p - 1))))) (cond d (inf (negative (binary p w s) b)) nan) ≡ num x
+          → (b % 2 ^ (w + p - 1) < infBits p w) × (x ≡ signed (negative (binary p w s) b) (bitsMag p s (b % 2 ^ (w + p - 1))))
+      go true d e f = (ltb-true (b % 2 ^ (w + p - 1)) (infBits p w) e, let g : signed (negative (binary p w s) b) (bitsMag p s (b % 2 ^ (w + p - 1))) ≡ x = cc in sym g)
+      go false true e f = let z : _≡_ {A = ℕ} 0 1 = cc in absurd (omega arith)
+      go false false e f = let z : _≡_ {A = ℕ} 0 1 = cc in absurd (omega arith)
+
   -- ---- bits are those of their own magnitude
   pub on-bits : (x : ℕ) → OnMag (float p s) (bitsMag p s x)
   unfolding bitsMag fieldMag
@@ -139,3 +152,28 @@ module _ (p w s : ℕ) (two : 2 ≤ p) (some : 0 < w) where
           ap (λ (z : ℕ). withSign (w + p) neg (magBits p s z)) (ap natAbs (sym f) ∙ abs-signed neg (bitsMag p s x)) ∙ ap (withSign (w + p) neg) (bits-again x) ∙ signed-again b h
       go false true e = let z : _≡_ {A = ℕ} 0 1 = cc in absurd (omega arith)
       go false false e = let z : _≡_ {A = ℕ} 0 1 = cc in absurd (omega arith)
+
+  -- ---- in range exactly below an infinity's bits
+  pub bits-in-range : (neg : Bool) (r : ℕ) → r < infBits p w → InRange (binary p w s) (signed neg (bitsMag p s r))
+  unfolding lowest highest
+  bits-in-range neg r h = within neg (bits-mono-le p s r (infBits p w - 1) (omega arith))
+    where
+      within : (neg : Bool) {m M : ℕ} → m ≤ M → (negℤ (pos M) ≤ℤ signed neg m) × (signed neg m ≤ℤ pos M)
+      within true {m} {M} l = (omega (ints, up-neg (pos m), dn-neg (pos m), up-neg (pos M), dn-neg (pos M)), omega (ints, up-neg (pos m), dn-neg (pos m)))
+      within false {m} {M} l = (omega (ints, up-neg (pos M), dn-neg (pos M)), omega ints)
+
+  pub bits-past-range : (neg : Bool) (r : ℕ) → infBits p w ≤ r → InRange (binary p w s) (signed neg (bitsMag p s r)) → ⊥
+  unfolding lowest highest
+  bits-past-range neg r h = beyond neg (bits-mono p s (infBits p w - 1) r (omega (arith, inf-pos)))
+    where
+      beyond : (neg : Bool) {m M : ℕ} → M < m → (negℤ (pos M) ≤ℤ signed neg m) × (signed neg m ≤ℤ pos M) → ⊥
+      beyond true {m} {M} l k = omega (ints, k .0, up-neg (pos m), dn-neg (pos m), up-neg (pos M), dn-neg (pos M))
+      beyond false {m} {M} l k = omega (ints, k .1)
+
+  -- a finite pattern's number is on the grid and in range
+  pub number-held : (b : ℕ) (x : ℤ) → valueOf (binary p w s) b ≡ num x → OnGrid (float p s) x × InRange (binary p w s) x
+  number-held b x is =
+      let f = finite-parts b x is in
+      let neg = negative (binary p w s) b in
+      let r = b % 2 ^ (w + p - 1) in
+      (subst (λ (z : ℤ). OnGrid (float p s) z) (sym (f .1)) (subst (λ (z : ℕ). OnMag (float p s) z) (sym (abs-signed neg (bitsMag p s r))) (on-bits r)), subst (λ (z : ℤ). InRange (binary p w s) z) (sym (f .1)) (bits-in-range neg r (f .0)))

@@ -72,7 +72,7 @@ module _ (s : Bool) (n u : ℕ) (some : 0 < n) (unit : 0 < u) where
   low-bits-lt (negsuc m) = omega (arith, pow-pos n)
 
   -- ---- every pattern's number is in the range
-  high-lt : highInt s n < 2 ^ n
+  pub high-lt : highInt s n < 2 ^ n
   high-lt = go s
     where
       go : (s : Bool) → highInt s n < 2 ^ n

@@ -1,16 +1,15 @@
 -- The number of a float's pattern rounded to a whole number is the pick: for any precision of at most 53 bits.
 -- Assumes nothing.
 use mathlib.Core.Path.{_≡_, refl, sym, ap, subst, _∙_}
-use mathlib.Core.Bool.{Bool, true, false, cond}
+use mathlib.Core.Bool.{Bool}
 use Prim.Native.Nat.{ℕ, _+_, _-_, _*_, _/_, _%_, _^_, _≤_, _<_}
 use native.Mathlib.Nat.{lt-of-lt-of-le, lt-trans, mod-lt}
 use native.Mathlib.Omega.{arith}
-use lib.Dec.{ltb, eqb}
 use lib.IntN.{natAbs, ℤ}
 use lib.Pow.{pow-mono, pow-pos}
-use borrow.Author.Tests.{lt-ltb, ltb-true}
-use Rattle.patterns.specs.Value.{num, inf, nan, negative, valueOf}
-use Rattle.patterns.proofs.Floats.{read, sign-is, sign-lt, inf-lt, bits-again, abs-signed}
+use borrow.Author.Tests.{lt-ltb}
+use Rattle.patterns.specs.Value.{num, negative, valueOf}
+use Rattle.patterns.proofs.Floats.{read, sign-is, sign-lt, inf-lt, bits-again, abs-signed, finite-parts}
 use Rattle.patterns.specs.Kind.{Kind, binary}
 use Rattle.rounding.proofs.Patterns.{Layout, stays-finite}
 use Rattle.grid.specs.declared.RoundingMode.{RoundingMode}
@@ -54,13 +53,8 @@ module _ (p w s one : ℕ) (L : Layout p w s one) (few : p ≤ 53) (most : one �
   bits = subst (λ (z : ℕ). (R : ℕ) × (bitsMag p z R ≡ pickMag (whole 1074) (ruleFor sign mode) (bitsMag p z mag))) (sym spaced) (rounded-bits (ruleFor sign mode) mag p one asks)
 
   finite : (mag < infBits p w) × (x ≡ signed sign (bitsMag p s mag))
-  unfolding valueOf mag sign
-  finite = go (ltb mag (infBits p w)) (eqb mag (infBits p w)) refl is
-    where
-      go : (c d : Bool) → ltb mag (infBits p w) ≡ c → cond c (num (signed sign (bitsMag p s mag))) (cond d (inf sign) nan) ≡ num x → (mag < infBits p w) × (x ≡ signed sign (bitsMag p s mag))
-      go true d e f = (ltb-true mag (infBits p w) e, let g : signed sign (bitsMag p s mag) ≡ x = cc in sym g)
-      go false true e f = let z : _≡_ {A = ℕ} 0 1 = cc in absurd (omega arith)
-      go false false e f = let z : _≡_ {A = ℕ} 0 1 = cc in absurd (omega arith)
+  unfolding mag sign
+  finite = finite-parts p w s (L .two) (L .some) b x is
 
   small : bits .0 < infBits p w
   unfolding mag

@@ -1,0 +1,6 @@
+pub mod Range
+pub mod Widened
+pub mod FloatToInt
+pub mod Integers
+pub mod ToFloat
+pub mod IntToFloat

@@ -1,0 +1,56 @@
+-- What the element conversions ask and return: the steps of `outcomeOf` behind the map.
+-- Assumes nothing.
+use mathlib.Core.Path.{_≡_}
+use mathlib.Core.Bool.{Bool, true, false, cond}
+use mathlib.Core.List.{[]}
+use Prim.Native.Nat.{ℕ, _-_, _*_, _%_, _^_, _≤_, _<_}
+use lib.Dec.{leb}
+use Rattle.grid.specs.Round.{signed}
+use Rattle.grid.specs.declared.RoundingMode.{RoundingMode}
+use Rattle.patterns.specs.Kind.{Kind, integer, binary, bits, lowInt, highInt}
+use Rattle.patterns.specs.Value.{valueOf}
+use Rattle.kinds.specs.Codes.{kindOf}
+use Rattle.patterns.specs.Pattern.{lowBits}
+use Rattle.kinds.specs.declared.OutOfRangeMode.{OutOfRangeMode}
+use Rattle.kinds.specs.declared.OutOfRangeMode.the-variants.{None, Clamp, Wrap}
+use Rattle.kinds.specs.declared.Outcome.{Outcome}
+use Rattle.kinds.specs.declared.Outcome.the-variants.{Stored, OutOfRange}
+use Rattle.cast_spec.specs.Element.{Settings, ranged, converted}
+use Rattle.element.specs.declared.Fit.{Fit}
+use Rattle.element.specs.declared.Fit.the-variants.{Pattern, Past}
+
+-- an element of a listed kind
+pub record ElementPattern (b code : ℕ) : Type 0 where
+  pub listed : code < 10
+  pub fits : b < 2 ^ bits (kindOf code)
+
+-- an element of a float kind: the codes 8 and 9
+pub record FloatPattern (b code : ℕ) : Type 0 where
+  pub least : 8 ≤ code
+  pub most : code ≤ 9
+  pub fits : b < 2 ^ bits (kindOf code)
+
+-- the outcome of an element that no entry matches, by the codes
+abbrev pub unmapped : ℕ → ℕ → RoundingMode → OutOfRangeMode → ℕ → Outcome
+unmapped from to rule range b = converted (record { from = kindOf from; to = kindOf to; rule = rule; range = range; entries = [] }) b (kindOf to) (valueOf (kindOf from) b)
+
+-- the magnitude of an integer kind's end on one side of zero
+unfoldable pub endMag : Kind → Bool → ℕ
+endMag (integer s n) neg = cond neg (cond s (2 ^ (n - 1)) 0) (highInt s n)
+endMag (binary p w s) neg = 0
+
+-- a whole number of the magnitude m past the range of n bits, whose end on that side has the magnitude e
+abbrev pub pastOf : ℕ → OutOfRangeMode → Bool → ℕ → ℕ → Fit
+pastOf n None neg m e = Past
+pastOf n Clamp neg m e = Pattern (lowBits n (signed neg e))
+pastOf n Wrap neg m e = Pattern (lowBits n (signed neg m))
+
+-- a fit as an outcome, of an element with the f64 value v
+abbrev pub fitted : Kind → ℕ → Fit → Outcome
+fitted k v (Pattern b) = Stored b
+fitted (integer s n) v Past = OutOfRange v (lowInt s n) (highInt s n)
+fitted (binary p w s) v Past = Stored 0
+
+-- r is what the range step says of any whole number N of that sign, whose magnitude modulo 2^64 is m and reaches 2^64 where `far` says so
+pub record Held (neg : Bool) (m : ℕ) (far : Bool) (to : ℕ) (range : OutOfRangeMode) (r : Fit) : Type 0 where
+  pub is : (N v : ℕ) → m ≡ N % 2 ^ 64 → far ≡ leb (2 ^ 64) N → fitted (kindOf to) v r ≡ ranged (kindOf to) range v neg (signed neg (N * 2 ^ 1074))

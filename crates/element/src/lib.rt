@@ -1,0 +1,220 @@
+// One element converted between any two kinds, with no map: the four conversions and the choice among them.
+ghost use mathlib.Core.Path.{_≡_};
+ghost use Prim.Native.Nat.{_<_, _≤_};
+ghost use Rattle.grid.specs.declared.RoundingMode.{RoundingMode};
+ghost use Rattle.patterns.specs.Pattern.{asF64};
+ghost use Rattle.kinds.specs.Codes.{kindOf};
+ghost use Rattle.kinds.specs.declared.OutOfRangeMode.{OutOfRangeMode};
+ghost use Rattle.rounding.specs.Rounding.{roundedOf};
+ghost use Rattle.integers.specs.Magnitude.{IntegerPattern};
+ghost use Rattle.element.specs.Convert.{ElementPattern, FloatPattern, endMag, pastOf, fitted, Held, unmapped};
+use grid::RoundingMode;
+use kinds::OutOfRangeMode;
+use kinds::Outcome;
+
+// What the range step leaves of a whole number: the target pattern to store, or nothing where it is refused.
+pub enum Fit {
+    Pattern(u64),
+    Past,
+}
+
+// The magnitude of an integer kind's lowest or highest number.
+fn end_magnitude(to: u8, negative: bool) -> u64
+    requires { ⌜ to < 8 ⌝ }
+    ensures { λ r. ⌜ r ≡ endMag (kindOf to) negative ⌝ }
+{
+    let row = kinds::row_of(to);
+    if negative {
+        if row.signed {
+            return row.highest + 1;
+        }
+        return 0;
+    }
+    row.highest
+}
+
+// A whole number past an integer kind's range, whose end on that side has the magnitude `end`.
+fn past(negative: bool, magnitude: u64, end: u64, bits: u32, range: OutOfRangeMode) -> Fit
+    requires { ⌜ (0 < bits) × (bits ≤ 64) ⌝ }
+    ensures { λ r. ⌜ r ≡ pastOf bits range negative magnitude end ⌝ }
+{
+    match range {
+        OutOfRangeMode::None => Fit::Past,
+        OutOfRangeMode::Clamp => Fit::Pattern(wrapping::wrap_magnitude(negative, end, bits)),
+        OutOfRangeMode::Wrap => Fit::Pattern(wrapping::wrap_magnitude(negative, magnitude, bits)),
+    }
+}
+
+// A whole number held to an integer kind's range, given by its sign, its magnitude modulo 2^64, and whether that is 2^64 or more.
+fn hold(negative: bool, magnitude: u64, far: bool, to: u8, range: OutOfRangeMode) -> Fit
+    requires { ⌜ to < 8 ⌝ }
+    ensures { λ r. ⌜ Held negative magnitude far to range r ⌝ }
+{
+    let end = end_magnitude(to, negative);
+    let bits = kinds::row_of(to).bits;
+    if far {
+        return past(negative, magnitude, end, bits, range);
+    }
+    if end < magnitude {
+        return past(negative, magnitude, end, bits, range);
+    }
+    Fit::Pattern(wrapping::wrap_magnitude(negative, magnitude, bits))
+}
+
+// A float element as an f64.
+fn float_as_f64(b: u64, from: u8) -> u64
+    requires { ⌜ FloatPattern b from ⌝ }
+    ensures { λ r. ⌜ r ≡ asF64 (kindOf from) b ⌝ }
+{
+    if from == 8 {
+        return floats::widen(b as u32);
+    }
+    b
+}
+
+// A float element rounded to a whole number in its own kind, as an f64.
+fn round_float(b: u64, from: u8, mode: RoundingMode) -> u64
+    requires { ⌜ FloatPattern b from ⌝ }
+    ensures { λ r. ⌜ r ≡ asF64 (kindOf from) (roundedOf (kindOf from) mode b) ⌝ }
+{
+    if from == 8 {
+        return floats::widen(rounding::round_with_mode_f32(b as u32, mode));
+    }
+    rounding::round_with_mode_f64(b, mode)
+}
+
+// The refusal of an element past an integer kind.
+fn out_of_range(value: u64, to: u8) -> Outcome
+    requires { ⌜ to < 8 ⌝ }
+    ensures { λ r. ⌜ r ≡ fitted (kindOf to) value Fit.Past ⌝ }
+{
+    let row = kinds::row_of(to);
+    Outcome::OutOfRange {
+        value: value,
+        lo: row.lowest,
+        hi: row.highest,
+    }
+}
+
+// A float to an integer kind.
+pub fn convert_float_to_int(
+    b: u64,
+    from: u8,
+    to: u8,
+    mode: RoundingMode,
+    range: OutOfRangeMode,
+) -> Outcome
+    requires { ⌜ FloatPattern b from × (to < 8) ⌝ }
+    ensures { λ r. ⌜ r ≡ unmapped from to mode range b ⌝ }
+{
+    let value = float_as_f64(b, from);
+    if 0x7ff0_0000_0000_0000 <= value & 0x7fff_ffff_ffff_ffff {
+        return Outcome::NanOrInf { value: value };
+    }
+    let whole = wrapping::whole_f64(round_float(b, from, mode));
+    match hold(whole.negative, whole.magnitude, whole.far, to, range) {
+        Fit::Pattern(pattern) => Outcome::Stored(pattern),
+        Fit::Past => out_of_range(value, to),
+    }
+}
+
+// An integer to an integer kind; nothing is rounded.
+pub fn convert_int_to_int(b: u64, from: u8, to: u8, range: OutOfRangeMode) -> Outcome
+    requires { ⌜ IntegerPattern b from × (to < 8) ⌝ }
+    ensures { λ r. ⌜ ((mode : RoundingMode) → r ≡ unmapped from to mode range b) ⌝ }
+{
+    let x = integers::int_magnitude(b, from);
+    match hold(x.negative, x.magnitude, false, to, range) {
+        Fit::Pattern(pattern) => Outcome::Stored(pattern),
+        Fit::Past => {
+            let nearest = RoundingMode::NearestEven;
+            out_of_range(
+                integers::int_to_f64_bits(x.magnitude, x.negative, 53, nearest),
+                to,
+            )
+        }
+    }
+}
+
+// An f64 to f32.
+fn narrow(b: u64, mode: RoundingMode, range: OutOfRangeMode) -> Outcome
+    ensures { λ r. ⌜ r ≡ unmapped 9 8 mode range b ⌝ }
+{
+    let magnitude = b & 0x7fff_ffff_ffff_ffff;
+    let sign = (b >> 63) << 31;
+    if 0x7ff0_0000_0000_0000 < magnitude {
+        return Outcome::Stored(floats::narrow_nan(b) as u64);
+    }
+    if magnitude == 0x7ff0_0000_0000_0000 {
+        return Outcome::Stored(sign + 0x7f80_0000);
+    }
+    let x = rounding::narrow_f32(magnitude, mode, 0x8000_0000_0000_0000 <= b);
+    if x < 0x7f80_0000 {
+        return Outcome::Stored(sign + x);
+    }
+    if let OutOfRangeMode::Clamp = range {
+        return Outcome::Stored(sign + 0x7f80_0000);
+    }
+    let row = kinds::row_of(8);
+    Outcome::FloatOutOfRange {
+        value: b,
+        lo: row.min,
+        hi: row.max,
+    }
+}
+
+// A float to a float kind: to its own kind, and to a wider one, exactly.
+pub fn convert_float_to_float(
+    b: u64,
+    from: u8,
+    to: u8,
+    mode: RoundingMode,
+    range: OutOfRangeMode,
+) -> Outcome
+    requires { ⌜ FloatPattern b from × (8 ≤ to) × (to ≤ 9) ⌝ }
+    ensures { λ r. ⌜ r ≡ unmapped from to mode range b ⌝ }
+{
+    if from == to {
+        return Outcome::Stored(b);
+    }
+    if from == 8 {
+        return Outcome::Stored(floats::widen(b as u32));
+    }
+    narrow(b, mode, range)
+}
+
+// An integer to a float kind, rounded once, from its own bits; the f64 that is narrowed has no more digits than an f32 holds.
+pub fn convert_int_to_float(b: u64, from: u8, to: u8, mode: RoundingMode) -> Outcome
+    requires { ⌜ IntegerPattern b from × (8 ≤ to) × (to ≤ 9) ⌝ }
+    ensures { λ r. ⌜ ((range : OutOfRangeMode) → r ≡ unmapped from to mode range b) ⌝ }
+{
+    let x = integers::int_magnitude(b, from);
+    if to == 9 {
+        return Outcome::Stored(integers::int_to_f64_bits(x.magnitude, x.negative, 53, mode));
+    }
+    let rounded = integers::int_to_f64_bits(x.magnitude, x.negative, 24, mode);
+    narrow(rounded, mode, OutOfRangeMode::None)
+}
+
+// An element of any kind to any kind.
+pub fn convert_element(
+    b: u64,
+    from: u8,
+    to: u8,
+    mode: RoundingMode,
+    range: OutOfRangeMode,
+) -> Outcome
+    requires { ⌜ ElementPattern b from × (to < 10) ⌝ }
+    ensures { λ r. ⌜ r ≡ unmapped from to mode range b ⌝ }
+{
+    if from < 8 {
+        if to < 8 {
+            return convert_int_to_int(b, from, to, range);
+        }
+        return convert_int_to_float(b, from, to, mode);
+    }
+    if to < 8 {
+        return convert_float_to_int(b, from, to, mode, range);
+    }
+    convert_float_to_float(b, from, to, mode, range)
+}
