@@ -46,8 +46,8 @@ good c = go (ltb c 4) (ltb c 8) (eqb c 8)
     go false false true = (lit≤ tt, lit< tt)
     go false false false = (lit≤ tt, lit< tt)
 
-pub fits : (c : ℕ) → Fits (kindOf c)
-fits c = go (ltb c 4) (ltb c 8) (eqb c 8)
+pub kind-fits : (c : ℕ) → Fits (kindOf c)
+kind-fits c = go (ltb c 4) (ltb c 8) (eqb c 8)
   where
     go : (x y z : Bool) → Fits (cond x (integer true (8 * 2 ^ c)) (cond y (integer false (8 * 2 ^ (c - 4))) (cond z (binary 24 8 925) (binary 53 11 0))))
     go true y z = int-fit (2 ^ c)
@@ -87,7 +87,7 @@ module _ (I : Inputs) where
       let k = kindOf (I .to) in
       rw (answer-is (R .passed), destination-is (R .passed))
       (subst (λ (z : ℕ). Served k (answerFrom (outcomeAt c) 0 (c .count)) (valueOf k (patternAt (dw I) (bytesFrom (outcomeAt c) (dw I) 0 (c .count) (I .destination)) i)) z (outcomeAt c z)) (zero-add i)
-      (served (outcomeAt c) (dw I) k i 0 (c .count) (I .destination) (fits (I .to)) (R .within) (λ j a b. R .before j (subst (λ (z : ℕ). j < z) (zero-add i) b))))
+      (served (outcomeAt c) (dw I) k i 0 (c .count) (I .destination) (kind-fits (I .to)) (R .within) (λ j a b. R .before j (subst (λ (z : ℕ). j < z) (zero-add i) b))))
 
   pub demand3 : Demand3 (callOf I) (answerOf I) (resultAt I (destinationOf I))
   demand3 = demand3-of (callOf I) (answerOf I) (resultAt I (destinationOf I)) (subst WellFormed (sym to-is) (good (I .to)))

@@ -5,5 +5,4 @@ pub mod Places
 pub mod Demand3
 pub mod Strength
 pub mod Witness
-pub mod Run
 pub mod Sentences

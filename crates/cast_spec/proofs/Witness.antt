@@ -1,102 +1,143 @@
--- The claim is about something: in the mixed chunk the elements 0 and 2 are taken, and 3 is not reached. Assumes nothing.
-use mathlib.Core.Path.{_≡_, refl, sym, ap, subst, _∙_}
+-- Demand 3 is not met vacuously: in one mixed chunk an element is picked, one refused, clamped or wrapped, one mapped, and two are compared.
+-- Assumes nothing.
+use mathlib.Core.Path.{_≡_, refl, ap, subst, _∙_}
 use mathlib.Core.Logic.{⊎-elim}
-use mathlib.Core.List.{[], List·Memᴰ·cases-cons, List·Memᴰ·not-nil}
-use Prim.Native.Nat.{ℕ, zero, suc, _*_, _^_, _<_}
+use mathlib.Core.Bool.{false}
+use mathlib.Core.List.{List·Memᴰ, List·Memᴰ·head, List·Memᴰ·tail, List·Memᴰ·cases-cons, List·Memᴰ·not-nil}
+use Prim.Native.Nat.{ℕ, zero, suc, _*_, _^_, _≤_, _<_}
 use native.Mathlib.Omega.{arith}
-use lib.Dec.{lit<}
+use lib.Dec.{T, lit<}
 use lib.Ieee.{size}
-use lib.IntN.{ℤ, pos}
-use lib.Signed.{leZ-yes}
+use lib.IntN.{ℤ, pos, natAbs}
+use lib.Signed.{leZ-yes, ltZ-yes}
 use Rattle.grid.specs.Grid.{whole}
 use Rattle.grid.specs.declared.RoundingMode.the-variants.{NearestEven}
 use Rattle.grid.specs.Round.{pick}
 use Rattle.grid.proofs.Picked.{pick-only}
 use Rattle.patterns.specs.Float.{bitsMag}
-use Rattle.patterns.specs.Value.{Value, nan, num, valueOf}
-use Rattle.kinds.specs.Codes.{kindOf}
-use Rattle.patterns.specs.Kind.{lowest, highest, InRange}
+use Rattle.patterns.specs.Value.{Value, nan, inf, num, valueOf}
+use Rattle.kinds.specs.Codes.{kindOf, rangeOf}
+use Rattle.patterns.specs.Kind.{Kind, f64, lowest, highest, InRange}
 use Rattle.cast_spec.specs.Element.{Entry, beyond, outcomeOf}
-use Rattle.patterns.specs.Pattern.{patternOf, nanPattern}
-use Rattle.kinds.specs.declared.Outcome.the-variants.{Stored}
-use Rattle.cast_spec.specs.Chunk.{Inputs, settingsOf, callOf, outcomeAt, inputs}
-use Rattle.cast_spec.specs.Demand3.{Refuses, Reached, Taken, RefusedBy, Demand3}
+use Rattle.patterns.specs.Pattern.{patternOf}
+use Rattle.cast_spec.specs.Chunk.{Call, settingsOf, callOf, outcomeAt}
+use Rattle.cast_spec.specs.Demand3.{Refuses, Reached, Taken, RefusedBy, Kept, Congruent, Handled, _≤ᵉ_, Demand3}
 use Rattle.kinds.specs.declared.Answer.{Answer}
 use Rattle.cast_spec.specs.Samples.{mixed}
-use Rattle.kinds.specs.declared.Answer.the-variants as A
+use Rattle.cast_spec.proofs.Strength.{one-number}
 
-abbrev I : Inputs
-I = mixed 9 0 A.Converted [] .inputs
+-- 2.5, NaN, -0, 300, 100 to u8, with NaN mapped to 9 and 0 to 7, under the range codes 0 none, 1 clamp, 2 wrap
+abbrev call : ℕ → Call
+call range = callOf (mixed range)
 
-first : outcomeAt (callOf I) 0 ≡ Stored 2
-unfolding callOf settingsOf outcomeAt outcomeOf beyond nanPattern patternOf valueOf lowest highest pick bitsMag size
-first = refl
+abbrev u8 : Kind
+u8 = kindOf 4
 
-second : outcomeAt (callOf I) 1 ≡ Stored 9
-unfolding callOf settingsOf outcomeAt outcomeOf beyond nanPattern patternOf valueOf lowest highest pick bitsMag size
-second = refl
+-- n as a multiple of 2^-1074
+abbrev int : ℕ → ℤ
+int n = pos (n * 2 ^ 1074)
 
-third-refuses : Refuses (outcomeAt (callOf I) 2)
-unfolding callOf settingsOf outcomeAt outcomeOf beyond nanPattern patternOf valueOf lowest highest pick bitsMag size
-third-refuses = tt
+abbrev two-and-a-half : ℤ
+two-and-a-half = pos (5 * 2 ^ 1073)
 
-before : (k : ℕ) → k < 2 → Refuses (outcomeAt (callOf I) k) → ⊥
-before zero h r = subst Refuses first r
-before (suc zero) h r = subst Refuses second r
-before (suc (suc k)) h r = absurd (omega arith)
-
-reached : Reached (callOf I) 2
+-- ---- reached
+passed : (g : ℕ) → g < 3 → T (call g .passed)
 unfolding callOf
-reached = record { passed = tt; within = lit< tt; before = before }
+passed zero h = tt
+passed (suc zero) h = tt
+passed (suc (suc zero)) h = tt
+passed (suc (suc (suc g))) h = absurd (omega arith)
 
--- 300
-pub taken : Taken (callOf I) 2 (pos (300 * 2 ^ 1074))
+-- 2.5, NaN and -0 are refused under no range code
+free : (g k : ℕ) → k < 3 → Refuses (outcomeAt (call g) k) → ⊥
+unfolding callOf settingsOf outcomeAt outcomeOf patternOf valueOf lowest highest pick bitsMag size
+free g zero h r = r
+free g (suc zero) h r = r
+free g (suc (suc zero)) h r = r
+free g (suc (suc (suc k))) h r = absurd (omega arith)
+
+reached : (g i : ℕ) → g < 3 → i ≤ 3 → Reached (call g) i
+unfolding callOf
+reached g i h l = record { passed = passed g h; within = omega arith; before = λ k m. free g k (omega arith) }
+
+-- 100 is not reached where 300 is refused
+pub not-reached : Reached (call 0) 4 → ⊥
+unfolding callOf settingsOf outcomeAt outcomeOf beyond patternOf valueOf lowest highest pick bitsMag size
+not-reached R = R .before 3 (lit< tt) tt
+
+-- ---- taken: the map's keys are NaN and 0
+abbrev magnitude : Value → ℕ
+magnitude nan = 0
+magnitude (inf s) = 0
+magnitude (num x) = natAbs x
+
+pub taken : (g i n : ℕ) → 0 < n → Reached (call g) i → valueOf f64 (call g .element i) ≡ num (pos n) → Taken (call g) i (pos n)
 unfolding callOf settingsOf valueOf bitsMag
-taken = record {
-  reached = reached;
-  finite = refl;
-  unmatched = λ e m v. ⊎-elim (λ (h : e ≡ record { key = 0x7ff8_0000_0000_0000; target = 9 }). let z : nan ≡ num (pos (300 * 2 ^ 1074)) = ap (λ (d : Entry). valueOf (kindOf 9) (d .key)) (sym h) ∙ v in let o : _≡_ {A = ℕ} 0 1 = cc in omega arith) (λ n. List·Memᴰ·not-nil n) (List·Memᴰ·cases-cons m);
-}
+taken g i n some R e = record { reached = R; finite = e; unmatched = λ d m v. omega (arith, ap magnitude v, keys d m) }
+  where
+    keys : (d : Entry) → List·Memᴰ d (call g .settings .entries) → magnitude (valueOf f64 (d .key)) ≡ 0
+    keys d m = ⊎-elim
+        (λ (h : d ≡ record { key = 0x7ff8_0000_0000_0000; target = 9 }). ap (λ (d : Entry). magnitude (valueOf f64 (d .key))) h)
+        (λ m. ⊎-elim
+        (λ (h : d ≡ record { key = 0; target = 7 }). ap (λ (d : Entry). magnitude (valueOf f64 (d .key))) h)
+        (λ m. absurd (List·Memᴰ·not-nil m))
+        (List·Memᴰ·cases-cons m))
+        (List·Memᴰ·cases-cons m)
 
-pub not-reached : Reached (callOf I) 3 → ⊥
-not-reached R = R .before 2 (lit< tt) third-refuses
+-- 2.5 at the position 0
+pub taken-0 : (g : ℕ) → g < 3 → Taken (call g) 0 two-and-a-half
+unfolding callOf valueOf bitsMag
+taken-0 g h = taken g 0 (5 * 2 ^ 1073) (lit< tt) (reached g 0 h (omega arith)) refl
 
--- ---- whatever meets the claim on this chunk refuses its element 2 by 6, and holds 2 at its place 0: so the claim shuts out an answer that
--- is ok or another refusal, a position made up, and a place with nothing or zero stored in it
-three-hundred : pick (whole 1074) NearestEven (pos (300 * 2 ^ 1074)) ≡ pos (300 * 2 ^ 1074)
-unfolding pick
-three-hundred = refl
+-- 300 at the position 3
+pub taken-3 : (g : ℕ) → g < 3 → Taken (call g) 3 (int 300)
+unfolding callOf valueOf bitsMag
+taken-3 g h = taken g 3 (300 * 2 ^ 1074) (lit< tt) (reached g 3 h (omega arith)) refl
 
-past-u8 : InRange (kindOf 4) (pos (300 * 2 ^ 1074)) → ⊥
-unfolding highest
-past-u8 h = h .1 .le
-
-pub must-refuse : (r : Answer) (res : ℕ → Value) → Demand3 (callOf I) r res → RefusedBy 6 r 2
-unfolding callOf settingsOf
-must-refuse r res D =
-    let R = D .each 2 (pos (300 * 2 ^ 1074)) taken in
-    let e : R .y ≡ pos (300 * 2 ^ 1074) = pick-only (whole 1074) tt NearestEven (pos (300 * 2 ^ 1074)) (R .y) (R .pick) ∙ three-hundred in
-    R .past (λ (h : InRange (kindOf 4) (R .y)). past-u8 (subst (λ (z : ℤ). InRange (kindOf 4) z) e h))
-
-two-and-a-half : pick (whole 1074) NearestEven (pos (5 * 2 ^ 1073)) ≡ pos (2 * 2 ^ 1074)
-unfolding pick
-two-and-a-half = refl
-
-in-u8 : InRange (kindOf 4) (pos (2 * 2 ^ 1074))
-unfolding lowest highest
-in-u8 = (leZ-yes tt, leZ-yes tt)
-
-taken-0 : Taken (callOf I) 0 (pos (5 * 2 ^ 1073))
+-- -0 at the position 2 is reached and not taken: the entry of 0 matches it
+pub mapped-2 : (g : ℕ) → g < 3 → Reached (call g) 2 × ((x : ℤ) → Taken (call g) 2 x → ⊥)
 unfolding callOf settingsOf valueOf bitsMag
-taken-0 = record {
-  reached = record { passed = tt; within = lit< tt; before = λ k h. absurd (omega arith) };
-  finite = refl;
-  unmatched = λ e m v. ⊎-elim (λ (h : e ≡ record { key = 0x7ff8_0000_0000_0000; target = 9 }). let z : nan ≡ num (pos (5 * 2 ^ 1073)) = ap (λ (d : Entry). valueOf (kindOf 9) (d .key)) (sym h) ∙ v in let o : _≡_ {A = ℕ} 0 1 = cc in omega arith) (λ n. List·Memᴰ·not-nil n) (List·Memᴰ·cases-cons m);
-}
+mapped-2 g h = (reached g 2 h (omega arith), λ x t. t .unmatched (record { key = 0; target = 7 }) (List·Memᴰ·tail (List·Memᴰ·head refl)) (t .finite))
 
-pub must-store : (r : Answer) (res : ℕ → Value) → Demand3 (callOf I) r res → res 0 ≡ num (pos (2 * 2 ^ 1074))
-unfolding callOf settingsOf
-must-store r res D =
-    let R = D .each 0 (pos (5 * 2 ^ 1073)) taken-0 in
-    let e : R .y ≡ pos (2 * 2 ^ 1074) = pick-only (whole 1074) tt NearestEven (pos (5 * 2 ^ 1073)) (R .y) (R .pick) ∙ two-and-a-half in
-    R .result (subst (λ (z : ℤ). InRange (kindOf 4) z) (sym e) in-u8) .1 ∙ ap num e
+-- ---- what an answer r and results res that meet demand 3 must be
+module _ (r : Answer) (res : ℕ → Value) where
+  -- of a taken element whose pick is y
+  says : (g i : ℕ) (x y : ℤ) → Taken (call g) i x → pick (whole 1074) NearestEven x ≡ y → Demand3 (call g) r res
+      → (InRange u8 y → Kept r i × (res i ≡ num y)) × ((InRange u8 y → ⊥) → Handled u8 (rangeOf g) r (res i) i x y)
+  unfolding callOf settingsOf
+  says g i x y t p D =
+      let R = D .each i x t in
+      subst (λ (z : ℤ). (InRange u8 z → Kept r i × (res i ≡ num z)) × ((InRange u8 z → ⊥) → Handled u8 (rangeOf g) r (res i) i x z))
+      (pick-only (whole 1074) tt NearestEven x (R .y) (R .pick) ∙ p) (R .result, R .past)
+
+  -- 2.5 is picked: 2
+  pub must-store : (g : ℕ) → g < 3 → Demand3 (call g) r res → Kept r 0 × (res 0 ≡ num (int 2))
+  unfolding pick lowest highest
+  must-store g h D = says g 0 two-and-a-half (int 2) (taken-0 g h) refl D .0 (leZ-yes tt, leZ-yes tt)
+
+  -- 300 is past u8
+  past : (g : ℕ) → g < 3 → Demand3 (call g) r res → Handled u8 (rangeOf g) r (res 3) 3 (int 300) (int 300)
+  unfolding pick highest
+  past g h D = says g 3 (int 300) (int 300) (taken-3 g h) refl D .1 (λ (i : InRange u8 (int 300)). i .1 .le)
+
+  -- it is refused by 6 at its position
+  pub must-refuse : Demand3 (call 0) r res → RefusedBy 6 r 3
+  must-refuse D = past 0 (lit< tt) D
+
+  -- it is clamped: 255
+  pub must-clamp : Demand3 (call 1) r res → Kept r 3 × (res 3 ≡ num (int 255))
+  unfolding highest
+  must-clamp D = let h = past 1 (lit< tt) D in (h .0, h .2 (ltZ-yes tt))
+
+  -- it is wrapped: 44, as 300 is 44 and one turn of 256
+  pub must-wrap : Demand3 (call 2) r res → Kept r 3 × (res 3 ≡ num (int 44))
+  unfolding lowest highest
+  must-wrap D =
+      let h = past 2 (lit< tt) D in
+      let c : Congruent u8 (num (int 44)) (int 300) = record { z = int 44; is = refl; held = (leZ-yes tt, leZ-yes tt); turns = pos 1; apart = refl } in
+      (h .0, one-number false 8 (res 3) (num (int 44)) (int 300) (lit< tt) (h .1) c)
+
+  -- 2.5 and 300 are both converted under clamp, so the larger has not the smaller result
+  pub in-order : Demand3 (call 1) r res → res 0 ≤ᵉ res 3
+  unfolding callOf settingsOf
+  in-order D = D .order 0 3 two-and-a-half (int 300) (taken-0 1 (lit< tt), must-store 1 (lit< tt) D .0, λ w. w .wraps) (taken-3 1 (lit< tt), must-clamp D .0, λ w. w .wraps) (leZ-yes tt)

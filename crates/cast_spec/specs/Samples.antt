@@ -1,79 +1,139 @@
--- The fourteen samples of the scope document, as rows of one table. Assumes nothing.
+-- The samples of document 01, the inputs that tell its false casts apart, and whole calls: tables, each proved by one theorem.
+-- Assumes nothing.
 use mathlib.Core.Path.{_≡_, refl}
 use mathlib.Core.List.{List, [], _∷_, _++_, map}
 use Prim.Native.Nat.{ℕ, _+_, _-_, _^_}
 use lib.Ieee.{size}
 use lib.IntN.{pos, negℤ}
 use Rattle.grid.specs.Round.{pick}
+use Rattle.grid.specs.declared.RoundingMode.{RoundingMode}
+use Rattle.grid.specs.declared.RoundingMode.the-variants.{NearestEven, TowardsZero, TowardsPositive, TowardsNegative, NearestAway}
 use Rattle.patterns.specs.Float.{bitsMag}
-use Rattle.kinds.specs.Codes.{roundingOf, kindOf}
+use Rattle.kinds.specs.Codes.{kindOf}
 use Rattle.patterns.specs.Value.{valueOf}
-use Rattle.patterns.specs.Kind.{lowest, highest}
+use Rattle.patterns.specs.Kind.{Kind, f32, f64, lowest, highest}
 use Rattle.kinds.specs.declared.OutOfRangeMode.{OutOfRangeMode}
 use Rattle.kinds.specs.declared.OutOfRangeMode.the-variants.{None, Clamp, Wrap}
 use Rattle.cast_spec.specs.Element.{Entry, beyond, outcomeOf}
 use Rattle.patterns.specs.Pattern.{patternOf, nanPattern}
 use Rattle.kinds.specs.declared.Outcome.{Outcome}
 use Rattle.kinds.specs.declared.Outcome.the-variants.{Stored, NanOrInf, OutOfRange, FloatOutOfRange}
-use Rattle.cast_spec.specs.Chunk.{Inputs, settingsOf, callOf, outcomeAt, answerOf, destinationOf}
+use Rattle.cast_spec.specs.Chunk.{Inputs, inputs, settingsOf, callOf, outcomeAt, answerOf, destinationOf}
 use Rattle.bytes_le.specs.Bytes.{toLe}
 use Rattle.kinds.specs.declared.Answer.{Answer}
-use Rattle.kinds.specs.declared.Answer.the-variants.{BrokenMap, UnknownCode}
 use Rattle.kinds.specs.declared.Answer.the-variants as A
+
+-- ---- what the rows are written with
+abbrev i8 : Kind
+i8 = kindOf 0
+
+abbrev i32 : Kind
+i32 = kindOf 2
+
+abbrev i64 : Kind
+i64 = kindOf 3
+
+abbrev u8 : Kind
+u8 = kindOf 4
+
+abbrev u64 : Kind
+u64 = kindOf 7
+
+abbrev entry : ℕ → ℕ → Entry
+entry k t = record { key = k; target = t }
+
+-- "Map NaN to 9, 0 to 7, 0 to 8"
+abbrev three : List Entry
+three = entry 0x7ff8_0000_0000_0000 9 ∷ entry 0 7 ∷ entry 0 8 ∷ []
+
+-- "position, value, -MAX, MAX": past f32, the value v
+abbrev past-f32 : ℕ → Outcome
+past-f32 v = FloatOutOfRange v 0xc7ef_ffff_e000_0000 0x47ef_ffff_e000_0000
 
 pub record Sample : Type 0 where
   pub got : Outcome
   pub wanted : Outcome
 
--- by the codes: source and target kind, rounding, and the pattern
-abbrev row : ℕ → ℕ → ℕ → OutOfRangeMode → List Entry → ℕ → Outcome → Sample
-row from to rule range es b w = record { got = outcomeOf (record { from = kindOf from; to = kindOf to; rule = roundingOf rule; range = range; entries = es }) b; wanted = w }
-
-abbrev entry : ℕ → ℕ → Entry
-entry k t = record { key = k; target = t }
-
--- NaN to 9, 0 to 7, 0 to 8
-abbrev three : List Entry
-three = entry 0x7ff8_0000_0000_0000 9 ∷ entry 0 7 ∷ entry 0 8 ∷ []
+-- source kind, target kind, rounding, range, map, the element's pattern, and the outcome that is wanted
+abbrev row : Kind → Kind → RoundingMode → OutOfRangeMode → List Entry → ℕ → Outcome → Sample
+row from to rule range entries pattern wanted = record { got = outcomeOf (record { from = from; to = to; rule = rule; range = range; entries = entries }) pattern; wanted = wanted }
 
 unfoldable pub samples : List Sample
 samples =
-    row 9 4 0 None [] 0x4004_0000_0000_0000 (Stored 2)
-    ∷ row 9 4 4 None [] 0x4004_0000_0000_0000 (Stored 3)
-    ∷ row 9 4 0 None [] 0xbfe0_0000_0000_0000 (Stored 0)
-    ∷ row 9 4 3 None [] 0xbfe0_0000_0000_0000 (OutOfRange 0xbfe0_0000_0000_0000 (pos 0) 255)
-    ∷ row 9 4 3 Clamp [] 0xbfe0_0000_0000_0000 (Stored 0)
-    ∷ row 9 4 3 Wrap [] 0xbfe0_0000_0000_0000 (Stored 255)
-    ∷ row 9 2 4 None [] 0x3fdf_ffff_ffff_ffff (Stored 0)
-    ∷ row 9 3 0 None [] 0x43e0_0000_0000_0000 (OutOfRange 0x43e0_0000_0000_0000 (negℤ (pos (2 ^ 63))) (2 ^ 63 - 1))
-    ∷ row 9 3 0 Clamp [] 0x43e0_0000_0000_0000 (Stored (2 ^ 63 - 1))
-    ∷ row 9 3 0 Wrap [] 0x43e0_0000_0000_0000 (Stored (2 ^ 63))
-    ∷ row 9 2 0 Clamp [] 0x7ff8_0000_0000_0000 (NanOrInf 0x7ff8_0000_0000_0000)
-    ∷ row 9 0 0 Wrap [] 0x4072_c000_0000_0000 (Stored 44)
-    ∷ row 4 0 0 Clamp [] 255 (Stored 127)
-    ∷ row 4 0 0 Wrap [] 255 (Stored 255)
-    ∷ row 3 8 0 None [] 16777217 (Stored 0x4b80_0000)
-    ∷ row 3 8 4 None [] 16777217 (Stored 0x4b80_0001)
-    ∷ row 3 8 2 None [] (2 ^ 64 - 16777217) (Stored 0xcb80_0000)
-    ∷ row 7 9 0 None [] (2 ^ 64 - 1) (Stored 0x43f0_0000_0000_0000)
-    ∷ row 7 9 1 None [] (2 ^ 64 - 1) (Stored 0x43ef_ffff_ffff_ffff)
-    ∷ row 9 8 1 None [] 0x47ef_ffff_f000_0000 (Stored 0x7f7f_ffff)
-    ∷ row 9 8 0 None [] 0x47ef_ffff_f000_0000 (FloatOutOfRange 0x47ef_ffff_f000_0000 0xc7ef_ffff_e000_0000 0x47ef_ffff_e000_0000)
-    ∷ row 9 8 1 None [] 0x47f0_0000_0000_0000 (FloatOutOfRange 0x47f0_0000_0000_0000 0xc7ef_ffff_e000_0000 0x47ef_ffff_e000_0000)
-    ∷ row 9 8 1 Clamp [] 0x47f0_0000_0000_0000 (Stored 0x7f80_0000)
-    ∷ row 9 8 0 None [] 0x3690_0000_0000_0000 (Stored 0)
-    ∷ row 9 8 4 None [] 0x3690_0000_0000_0000 (Stored 1)
-    ∷ row 9 8 2 None [] 0xb370_0000_0000_0000 (Stored 0x8000_0000)
-    ∷ row 9 4 0 None three 0x8000_0000_0000_0000 (Stored 7)
-    ∷ row 9 4 0 None three 0xfff0_0000_0000_0001 (Stored 9)
-    ∷ row 8 9 0 None [] 0xff80_0001 (Stored 0xfff8_0000_2000_0000)
-    ∷ row 9 8 0 None [] 0xfff0_0000_2000_0001 (Stored 0xffc0_0001)
-    ∷ row 9 9 0 None [] 0x7ff0_0000_0000_0001 (Stored 0x7ff0_0000_0000_0001)
-    ∷ row 3 4 0 None [] (2 ^ 53 + 1) (OutOfRange 0x4340_0000_0000_0000 (pos 0) 255)
-    ∷ row 8 4 0 None [] 0xff80_0001 (NanOrInf 0xfff8_0000_2000_0000)
-    ∷ row 8 9 0 None [] 0x8000_0001 (Stored 0xb6a0_0000_0000_0000)
-    ∷ row 9 8 0 Wrap [] 0xc7f0_0000_0000_0000 (FloatOutOfRange 0xc7f0_0000_0000_0000 0xc7ef_ffff_e000_0000 0x47ef_ffff_e000_0000)
-    ∷ row 3 9 0 None [] 0 (Stored 0)
+    -- ---- "Samples on each side". `OutOfRange` is 6, with the target's ends; `past-f32` is 7; `NanOrInf` is 5.
+    -- 1. 2.5 f64 to u8: nearest-even 2, nearest-away 3.
+    row f64 u8 NearestEven None [] 0x4004_0000_0000_0000 (Stored 2)
+    ∷ row f64 u8 NearestAway None [] 0x4004_0000_0000_0000 (Stored 3)
+    -- 2. -0.5 to u8: nearest-even 0; towards-negative: 6, clamp 0, wrap 255.
+    ∷ row f64 u8 NearestEven None [] 0xbfe0_0000_0000_0000 (Stored 0)
+    ∷ row f64 u8 TowardsNegative None [] 0xbfe0_0000_0000_0000 (OutOfRange 0xbfe0_0000_0000_0000 (pos 0) 255)
+    ∷ row f64 u8 TowardsNegative Clamp [] 0xbfe0_0000_0000_0000 (Stored 0)
+    ∷ row f64 u8 TowardsNegative Wrap [] 0xbfe0_0000_0000_0000 (Stored 255)
+    -- 3. 0.49999999999999994, nearest-away, to i32: 0.
+    ∷ row f64 i32 NearestAway None [] 0x3fdf_ffff_ffff_ffff (Stored 0)
+    -- 4. 2^63 f64 to i64: 6; clamp 2^63 - 1; wrap -2^63.
+    ∷ row f64 i64 NearestEven None [] 0x43e0_0000_0000_0000 (OutOfRange 0x43e0_0000_0000_0000 (negℤ (pos (2 ^ 63))) (2 ^ 63 - 1))
+    ∷ row f64 i64 NearestEven Clamp [] 0x43e0_0000_0000_0000 (Stored (2 ^ 63 - 1))
+    ∷ row f64 i64 NearestEven Wrap [] 0x43e0_0000_0000_0000 (Stored (2 ^ 64 - 2 ^ 63))
+    -- 5. NaN to i32 under clamp: 5.
+    ∷ row f64 i32 NearestEven Clamp [] 0x7ff8_0000_0000_0000 (NanOrInf 0x7ff8_0000_0000_0000)
+    -- 6. 300 f64 to i8, wrap: 44.
+    ∷ row f64 i8 NearestEven Wrap [] 0x4072_c000_0000_0000 (Stored 44)
+    -- 7. 255 u8 to i8: clamp 127, wrap -1.
+    ∷ row u8 i8 NearestEven Clamp [] 255 (Stored 127)
+    ∷ row u8 i8 NearestEven Wrap [] 255 (Stored (2 ^ 8 - 1))
+    -- 8. 16777217 i64 to f32: nearest-even 16777216, nearest-away 16777218; its negative, towards-positive, -16777216.
+    ∷ row i64 f32 NearestEven None [] 16777217 (Stored 0x4b80_0000)
+    ∷ row i64 f32 NearestAway None [] 16777217 (Stored 0x4b80_0001)
+    ∷ row i64 f32 TowardsPositive None [] (2 ^ 64 - 16777217) (Stored 0xcb80_0000)
+    -- 9. 2^64 - 1 u64 to f64: nearest-even 2^64; towards-zero 18446744073709549568.
+    ∷ row u64 f64 NearestEven None [] (2 ^ 64 - 1) (Stored 0x43f0_0000_0000_0000)
+    ∷ row u64 f64 TowardsZero None [] (2 ^ 64 - 1) (Stored 0x43ef_ffff_ffff_ffff)
+    -- 10. 2^128 - 2^103 f64 to f32: towards-zero bits 7f7fffff hexadecimal; nearest-even 7.
+    ∷ row f64 f32 TowardsZero None [] 0x47ef_ffff_f000_0000 (Stored 0x7f7f_ffff)
+    ∷ row f64 f32 NearestEven None [] 0x47ef_ffff_f000_0000 (past-f32 0x47ef_ffff_f000_0000)
+    -- 11. 2^128, towards-zero: 7; clamp +infinity.
+    ∷ row f64 f32 TowardsZero None [] 0x47f0_0000_0000_0000 (past-f32 0x47f0_0000_0000_0000)
+    ∷ row f64 f32 TowardsZero Clamp [] 0x47f0_0000_0000_0000 (Stored 0x7f80_0000)
+    -- 12. 2^-150 to f32: nearest-even +0, nearest-away 2^-149.
+    ∷ row f64 f32 NearestEven None [] 0x3690_0000_0000_0000 (Stored 0)
+    ∷ row f64 f32 NearestAway None [] 0x3690_0000_0000_0000 (Stored 1)
+    -- 13. -2^-200 to f32, towards-positive: -0.
+    ∷ row f64 f32 TowardsPositive None [] 0xb370_0000_0000_0000 (Stored 0x8000_0000)
+    -- 14. Map NaN to 9, 0 to 7, 0 to 8: -0 gives 7.
+    ∷ row f64 u8 NearestEven None three 0x8000_0000_0000_0000 (Stored 7)
+    -- ---- "Plausible and false": the smallest input that tells each apart, with the right answer; the comment says what the false cast gives
+    -- "adding 0.5 and taking the floor for nearest-away": 1 for 0.49999999999999994, as the sum rounds to 1; and 0 for -0.5.
+    ∷ row f64 u8 NearestAway None [] 0x3fdf_ffff_ffff_ffff (Stored 0)
+    ∷ row f64 i8 NearestAway None [] 0xbfe0_0000_0000_0000 (Stored (2 ^ 8 - 1))
+    -- "testing `value <= highest` after the highest was rounded up to 2^k": 2^31 f32 to i32 is accepted, as 2^31 - 1 is 2^31 in f32.
+    ∷ row f32 i32 NearestEven None [] 0x4f00_0000 (OutOfRange 0x41e0_0000_0000_0000 (negℤ (pos (2 ^ 31))) (2 ^ 31 - 1))
+    -- "making towards-zero give MAX for 2^128": 7f7fffff for 2^128, here under wrap; ff7fffff for -2^128, here under clamp.
+    ∷ row f64 f32 TowardsZero Wrap [] 0x47f0_0000_0000_0000 (past-f32 0x47f0_0000_0000_0000)
+    ∷ row f64 f32 TowardsZero Clamp [] 0xc7f0_0000_0000_0000 (Stored 0xff80_0000)
+    -- "rounding i64 to f64 before f32": 2^53 for 2^53 + 2^29 + 1, which f64 rounds to the halfway 2^53 + 2^29. Right is 2^53 + 2^30.
+    ∷ row i64 f32 NearestEven None [] (2 ^ 53 + 2 ^ 29 + 1) (Stored 0x5a00_0001)
+    -- "range-checking a map target": 7 for 1 mapped to +infinity.
+    ∷ row f64 f64 NearestEven None (entry 0x3ff0_0000_0000_0000 0x7ff0_0000_0000_0000 ∷ []) 0x3ff0_0000_0000_0000 (Stored 0x7ff0_0000_0000_0000)
+    ∷ row f64 f32 NearestEven None (entry 0x3ff0_0000_0000_0000 0x7f80_0000 ∷ []) 0x3ff0_0000_0000_0000 (Stored 0x7f80_0000)
+    -- ---- "A NaN key matches every NaN": any fraction, either sign. "The target is handed out unchanged": a NaN's bits too.
+    ∷ row f64 u8 NearestEven None three 0xfff0_0000_0000_0001 (Stored 9)
+    ∷ row f64 f32 NearestEven None (entry 0 0x7f80_0001 ∷ []) 0 (Stored 0x7f80_0001)
+    -- ---- "NaN to a float kind": "same kind, bits unchanged"
+    ∷ row f64 f64 NearestEven None [] 0x7ff0_0000_0000_0001 (Stored 0x7ff0_0000_0000_0001)
+    -- "f64 to f32, sign kept, top 23 fraction bits kept, highest fraction bit set"
+    ∷ row f64 f32 NearestEven None [] 0xfff0_0000_2000_0001 (Stored 0xffc0_0001)
+    -- "f32 to f64, sign kept, fraction placed at the top, highest fraction bit set"
+    ∷ row f32 f64 NearestEven None [] 0xff80_0001 (Stored 0xfff8_0000_2000_0000)
+    -- ---- "The value is the unrounded element as f64, an integer by nearest-even": 2^53 + 1 as 2^53; "a NaN by the rule above"
+    ∷ row i64 u8 NearestEven None [] (2 ^ 53 + 1) (OutOfRange 0x4340_0000_0000_0000 (pos 0) 255)
+    ∷ row f32 u8 NearestEven None [] 0xff80_0001 (NanOrInf 0xfff8_0000_2000_0000)
+    -- ---- "Widening and same-kind float casts are exact": -2^-149. "infinities pass". "Integer zero gives +0."
+    ∷ row f32 f64 NearestEven None [] 0x8000_0001 (Stored 0xb6a0_0000_0000_0000)
+    ∷ row f64 f32 NearestEven None [] 0xfff0_0000_0000_0000 (Stored 0xff80_0000)
+    ∷ row i64 f64 NearestEven None [] 0 (Stored 0)
+    -- ---- "Wrap with a float target is accepted and acts as range code 0": -2^128
+    ∷ row f64 f32 NearestEven Wrap [] 0xc7f0_0000_0000_0000 (past-f32 0xc7f0_0000_0000_0000)
     ∷ []
 
 pub samples-hold : map (λ (s : Sample). s .got) samples ≡ map (λ (s : Sample). s .wanted) samples
@@ -92,29 +152,54 @@ pub record Chunk : Type 0 where
 abbrev left : Inputs → Left
 left I = record { answer = answerOf I; bytes = destinationOf I }
 
--- 2.5, NaN, 300, 7 to u8, with a NaN mapped to 9: two are converted, the third is refused, and it and the fourth stay as they were
-abbrev pub mixed : ℕ → ℕ → Answer → List ℕ → Chunk
-mixed from range r d = record {
-  inputs = record {
-    source = toLe 8 0x4004_0000_0000_0000 ++ toLe 8 0xfff8_0000_0000_0000 ++ toLe 8 0x4072_c000_0000_0000 ++ toLe 8 0x401c_0000_0000_0000;
-    destination = 0xaa ∷ 0xbb ∷ 0xcc ∷ 0xdd ∷ [];
-    keys = toLe 8 0x7ff8_0000_0000_0000;
-    targets = 9 ∷ [];
-    from = from;
-    to = 4;
-    rounding = 0;
-    range = range;
-  };
-  wanted = record { answer = r; bytes = d };
-}
+abbrev call : Inputs → Answer → List ℕ → Chunk
+call I r d = record { inputs = I; wanted = record { answer = r; bytes = d } }
+
+-- what stands in a destination of n bytes before the call
+abbrev old : ℕ → List ℕ
+old n = toLe n 0xa7a6_a5a4_a3a2_a1a0
+
+-- 2.5, NaN, -0, 300, 100 f64 to u8 by nearest-even, with NaN mapped to 9 and 0 to 7
+abbrev pub mixed : ℕ → Inputs
+mixed range = inputs
+    (toLe 8 0x4004_0000_0000_0000 ++ toLe 8 0xfff8_0000_0000_0000 ++ toLe 8 0x8000_0000_0000_0000 ++ toLe 8 0x4072_c000_0000_0000 ++ toLe 8 0x4059_0000_0000_0000)
+    (old 5)
+    (toLe 8 0x7ff8_0000_0000_0000 ++ toLe 8 0)
+    (9 ∷ 7 ∷ [])
+    9
+    4
+    0
+    range
+
+-- f64 to u8 by nearest-even, with no map
+abbrev plain : List ℕ → List ℕ → ℕ → Inputs
+plain s d range = inputs s d [] [] 9 4 0 range
 
 unfoldable pub chunks : List Chunk
 chunks =
-    mixed 9 0 (A.OutOfRange 2 0x4072_c000_0000_0000 (pos 0) 255) (2 ∷ 9 ∷ 0xcc ∷ 0xdd ∷ [])
-    ∷ mixed 9 1 A.Converted (2 ∷ 9 ∷ 255 ∷ 7 ∷ [])
-    ∷ mixed 9 2 A.Converted (2 ∷ 9 ∷ 44 ∷ 7 ∷ [])
-    ∷ mixed 9 3 A.UnknownCode (0xaa ∷ 0xbb ∷ 0xcc ∷ 0xdd ∷ [])
-    ∷ mixed 8 0 A.BrokenMap (0xaa ∷ 0xbb ∷ 0xcc ∷ 0xdd ∷ [])
+    -- "those before it are converted, it and all later ones untouched": 300 is refused at 3
+    call (mixed 0) (A.OutOfRange 3 0x4072_c000_0000_0000 (pos 0) 255) (2 ∷ 9 ∷ 7 ∷ 0xa3 ∷ 0xa4 ∷ [])
+    -- clamp, and wrap
+    ∷ call (mixed 1) A.Converted (2 ∷ 9 ∷ 7 ∷ 255 ∷ 100 ∷ [])
+    ∷ call (mixed 2) A.Converted (2 ∷ 9 ∷ 7 ∷ 44 ∷ 100 ∷ [])
+    -- 1: "a kind, rounding or range code not listed"; "Numbers 1 to 4 are tested in that order": whatever else is broken
+    ∷ call (mixed 3) A.UnknownCode (old 5)
+    ∷ call (inputs (0 ∷ []) (old 3) (0 ∷ []) [] 9 10 0 0) A.UnknownCode (old 3)
+    ∷ call (inputs (0 ∷ []) (old 3) (0 ∷ []) [] 9 9 5 0) A.UnknownCode (old 3)
+    -- 2: "map key bytes or target bytes not whole elements, or their counts differ"
+    ∷ call (inputs (0 ∷ []) (old 3) (0 ∷ []) [] 9 9 0 0) A.BrokenMap (old 3)
+    ∷ call (inputs [] [] (0 ∷ 1 ∷ []) (0 ∷ []) 4 4 0 0) A.BrokenMap []
+    -- 3: "source or destination bytes not whole elements"
+    ∷ call (plain (0 ∷ []) (old 3) 0) A.BrokenElement (old 3)
+    ∷ call (inputs (0 ∷ []) (old 3) [] [] 4 5 0 0) A.BrokenElement (old 3)
+    -- 4: "element counts differ", with "both counts"
+    ∷ call (plain (toLe 8 0 ++ toLe 8 0) (old 3) 0) (A.LengthMismatch 2 3) (old 3)
+    -- "Two empty chunks that pass 1 to 4 are accepted."
+    ∷ call (plain [] [] 0) A.Converted []
+    -- "Number 5 is given under clamp and wrap too.": 2.5, NaN
+    ∷ call (plain (toLe 8 0x4004_0000_0000_0000 ++ toLe 8 0x7ff8_0000_0000_0000) (old 2) 1) (A.NanOrInf 1 0x7ff8_0000_0000_0000) (2 ∷ 0xa1 ∷ [])
+    -- 7: "pick past a float target, range code 0 or 2": 1, 2^128 f64 to f32
+    ∷ call (inputs (toLe 8 0x3ff0_0000_0000_0000 ++ toLe 8 0x47f0_0000_0000_0000) (old 8) [] [] 9 8 0 2) (A.FloatOutOfRange 1 0x47f0_0000_0000_0000 0xc7ef_ffff_e000_0000 0x47ef_ffff_e000_0000) (toLe 4 0x3f80_0000 ++ (0xa4 ∷ 0xa5 ∷ 0xa6 ∷ 0xa7 ∷ []))
     ∷ []
 
 pub chunks-hold : map (λ (s : Chunk). left (s .inputs)) chunks ≡ map (λ (s : Chunk). s .wanted) chunks

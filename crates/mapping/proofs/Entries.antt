@@ -18,7 +18,7 @@ use Rattle.kinds.specs.Codes.{kindOf}
 use Rattle.kinds.specs.Row.{rowOf}
 use Rattle.cast_spec.specs.Element.{Entry, matches, mapped}
 use Rattle.cast_spec.specs.Chunk.{width, entriesFrom}
-use Rattle.cast_spec.proofs.Demand3.{fits}
+use Rattle.cast_spec.proofs.Demand3.{kind-fits}
 use Rattle.mapping.specs.declared.Lookup.{Lookup}
 use Rattle.mapping.specs.declared.Lookup.the-variants.{Found, Missing}
 use Rattle.mapping.specs.Map.{lookupOf, foundOr, MapBytes}
@@ -73,7 +73,7 @@ module _ {b : ℕ} {keys targets : List ℕ} {n from dw : ℕ} where
 
     module _ {key : ℕ} (is : (key ≡ patternAt sw keys j) × (key < 256 ^ sw)) where
       pub key-fits : key < 2 ^ bits (kindOf from)
-      key-fits = subst (λ (z : ℕ). key < z) (ap (λ (z : ℕ). 256 ^ z) (P .width-is) ∙ fits from) (is .1)
+      key-fits = subst (λ (z : ℕ). key < z) (ap (λ (z : ℕ). 256 ^ z) (P .width-is) ∙ kind-fits from) (is .1)
 
       -- t says whether the key matches
       module _ {t : Bool} (test : Matched b key t (kindOf from)) where

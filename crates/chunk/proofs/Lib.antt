@@ -1,0 +1,4 @@
+pub mod Runs
+pub mod Elements
+pub mod Loop
+pub mod Exits

@@ -1,0 +1,149 @@
+-- `chunk::convert` meets its contract: each way out is one of the laws of the checks, and the run is the definition's over all positions.
+-- Assumes nothing.
+use mathlib.Core.Path.{_≡_, sym, ap, ap₂, subst, _∙_}
+use mathlib.Core.Bool.{Bool, true, false, _&&_}
+use Prim.Native.Nat.{ℕ, _/_, _%_, _<_}
+use lib.Dec.{eqb}
+use lib.ListN.{length}
+use denote.Ref.{now}
+use Rattle.kinds.specs.declared.Answer.{Answer}
+use Rattle.kinds.specs.declared.Answer.the-variants as A
+use Rattle.cast_spec.specs.Chunk.{Inputs, inputs, codesListed, mapWhole, bytesWhole, sw, dw}
+use Rattle.cast_spec.specs.Demand3.{Contract}
+use Rattle.chunk.specs.Run.{settingsFor, settingsBy, RunIn, Ran}
+use Rattle.chunk.specs.declared.Settings.{Settings}
+use Rattle.chunk.proofs.Exits.{width-pos, listed-codes, unknown, broken-map, broken-element, mismatch, run-asks, run-whole, not-true, not-false}
+use borrow.Author.Needs.{needs}
+use Rattle.chunk.proofs.convert.Statement.{statement}
+use Rattle.chunk.proofs.convert.Tie as tie
+
+-- ---- the inputs, and what each check told
+abbrev start : tie.After-codes-listed → tie.Start
+start c = c .before .before .before .before .before
+
+abbrev given : tie.After-codes-listed → Inputs
+given c = let a = start c .args in inputs (now (a .src)) (now (a .dst)) (now (a .keys)) (now (a .targets)) (a .from) (a .to) (a .rounding) (a .range)
+
+listed : (c : tie.Else1) → codesListed (given (c .before)) ≡ true
+listed c = sym (c .before .codes-listed .ensures) ∙ not-false (c .before .codes-listed .result) (c .if1 .left)
+
+codes : (c : tie.Else1) → (start (c .before) .args .from < 10) × (start (c .before) .args .to < 10)
+codes c = let a = start (c .before) .args in listed-codes (a .from) (a .to) (a .rounding) (a .range) (listed c)
+
+abbrev settings : tie.After-settings-of → Settings
+settings c = c .settings-of .result
+
+is-settings : (c : tie.After-settings-of) → let a = start (c .before .before) .args in settings c ≡ settingsBy (a .from) (a .to) (a .rounding) (a .range) (length (now (a .keys)))
+is-settings c = c .settings-of .ensures
+
+widths : (c : tie.After-settings-of) → (0 < settings c .sw) × (0 < settings c .dw)
+widths c =
+    let a = start (c .before .before) .args in
+    subst (λ (s : Settings). (0 < s .sw) × (0 < s .dw)) (sym (is-settings c)) (width-pos (a .from) (codes (c .before) .0), width-pos (a .to) (codes (c .before) .1))
+
+map-told : (c : tie.After-whole-map) → c .whole-map .result ≡ mapWhole (given (c .before .before .before))
+map-told c =
+    let a = start (c .before .before .before) .args in
+    c .whole-map .ensures ∙ ap (λ (s : Settings). eqb (length (now (a .keys)) % s .sw) 0 && eqb (length (now (a .targets)) % s .dw) 0 && eqb (length (now (a .keys)) / s .sw) (length (now (a .targets)) / s .dw)) (is-settings (c .before))
+
+bytes-told : (c : tie.After-whole-elements) → c .whole-elements .result ≡ bytesWhole (given (c .before .before .before .before .before))
+bytes-told c =
+    let a = start (c .before .before .before .before .before) .args in
+    c .whole-elements .ensures ∙ ap (λ (s : Settings). eqb (length (now (a .src)) % s .sw) 0 && eqb (length (now (a .dst)) % s .dw) 0) (is-settings (c .before .before .before))
+
+map-whole : (c : tie.Else2) → mapWhole (given (c .before .before .before .before)) ≡ true
+map-whole c = sym (map-told (c .before)) ∙ not-false (c .before .whole-map .result) (c .if2 .left)
+
+bytes-whole : (c : tie.Else3) → bytesWhole (given (c .before .before .before .before .before .before)) ≡ true
+bytes-whole c = sym (bytes-told (c .before)) ∙ not-false (c .before .whole-elements .result) (c .if3 .left)
+
+-- the counts, by the settings that the program has
+counts : (c : tie.After-struct-known2) → let u = c .before .before .before .before .before .before in let a = start (u .before .before) .args in
+    (length (now (a .src)) / settings u .sw ≡ length (now (a .src)) / sw (given (u .before .before))) × (length (now (a .dst)) / settings u .dw ≡ length (now (a .dst)) / dw (given (u .before .before)))
+counts c =
+    let u = c .before .before .before .before .before .before in
+    let a = start (u .before .before) .args in
+    (ap (λ (s : Settings). length (now (a .src)) / s .sw) (is-settings u), ap (λ (s : Settings). length (now (a .dst)) / s .dw) (is-settings u))
+
+same-counts : (c : tie.Else4) → let u = c .before .before .before .before .before .before .before in let a = start (u .before .before) .args in length (now (a .src)) / settings u .sw ≡ length (now (a .dst)) / settings u .dw
+same-counts c = c .if4 .left
+
+codes-listed-requires : tie.Need-codes-listed-requires
+codes-listed-requires c κs = search needs
+
+returns : tie.Need-returns
+returns c = unknown (given (c .before)) (sym (c .before .codes-listed .ensures) ∙ not-true (c .before .codes-listed .result) (c .if1 .taken))
+
+settings-of-requires : tie.Need-settings-of-requires
+settings-of-requires c κs = codes c
+
+whole-map-requires : tie.Need-whole-map-requires
+whole-map-requires c κs = widths c
+
+returns-2 : tie.Need-returns-2
+returns-2 c = let e = c .before .before .before in broken-map (given (e .before)) (listed e) (sym (map-told (c .before)) ∙ not-true (c .before .whole-map .result) (c .if2 .taken))
+
+whole-elements-requires : tie.Need-whole-elements-requires
+whole-elements-requires c κs = widths (c .before .before)
+
+returns-3 : tie.Need-returns-3
+returns-3 c = let m = c .before .before in let e = m .before .before .before in broken-element (given (e .before)) (listed e) (map-whole m) (sym (bytes-told (c .before)) ∙ not-true (c .before .whole-elements .result) (c .if3 .taken))
+
+div-n : tie.Need-div-n
+div-n c = widths (c .before .before .before .before .before) .0
+
+div-m : tie.Need-div-m
+div-m c = widths (c .before .before .before .before .before .before) .1
+
+returns-4 : tie.Need-returns-4
+returns-4 c =
+    let b = c .before .before .before in
+    let m = b .before .before in
+    let e = m .before .before .before in
+    let k = counts (c .before) in
+    subst (λ (r : Answer). Contract (given (e .before)) r (now (start (e .before) .args .dst))) (ap₂ A.LengthMismatch (sym (k .0)) (sym (k .1)))
+    (mismatch (given (e .before)) (listed e) (map-whole m) (bytes-whole b) (λ d. c .if4 .taken (k .0 ∙ d ∙ sym (k .1))))
+
+run-requires : tie.Need-run-requires
+run-requires c κs =
+    let b = c .before .before .before .before in
+    let m = b .before .before in
+    let u = m .before .before in
+    let e = u .before in
+    let a = start (e .before) .args in
+    let k = counts (c .before .before) in
+    subst (λ (s : Settings). RunIn s (now (a .keys)) (now (a .targets)) (now (a .src)) (now (a .dst)) 0 (length (now (a .src)) / s .sw)) (sym (is-settings u))
+    (run-asks (given (e .before)) (listed e) (map-whole m) (bytes-whole b) (sym (k .0) ∙ same-counts (c .before) ∙ k .1))
+
+same-length : tie.Need-same-length
+same-length c = search needs
+
+returns-5 : tie.Need-returns-5
+returns-5 c =
+    let x = c .before .before in
+    let b = x .before .before .before .before .before in
+    let m = b .before .before in
+    let u = m .before .before in
+    let e = u .before in
+    let a = start (e .before) .args in
+    let k = counts (x .before .before .before) in
+    run-whole (given (e .before)) (listed e) (map-whole m) (bytes-whole b) (sym (k .0) ∙ same-counts (x .before .before) ∙ k .1) (x .run .result) (x .run .last .1 .0)
+    (subst (λ (s : Settings). Ran (settingsFor s (now (a .keys)) (now (a .targets))) (s .sw) (s .dw) (now (a .src)) (now (a .dst)) 0 (length (now (a .src)) / s .sw) (x .run .result) (x .run .last .1 .0)) (is-settings u) (x .run .ensures))
+
+pub convert-spec : {M : Type 1} → statement M
+convert-spec =
+    tie.close
+    (tie.spec
+    codes-listed-requires
+    returns
+    settings-of-requires
+    whole-map-requires
+    returns-2
+    whole-elements-requires
+    returns-3
+    div-n
+    div-m
+    returns-4
+    run-requires
+    same-length
+    returns-5)
