@@ -68,11 +68,11 @@ chosen true x y t = refl
 chosen false x y t = absurd t
 
 module _ (I : Inputs) where
-  answer-is : T (callOf I .passed) → answerOf I ≡ answerFrom (outcomeAt (callOf I)) 0 (callOf I .count)
+  pub answer-is : T (callOf I .passed) → answerOf I ≡ answerFrom (outcomeAt (callOf I)) 0 (callOf I .count)
   unfolding answerOf callOf
   answer-is t = passes (codesListed I) (mapWhole I) (bytesWhole I) (countsMeet I) _ _ _ _ _ t
 
-  destination-is : T (callOf I .passed) → destinationOf I ≡ bytesFrom (outcomeAt (callOf I)) (dw I) 0 (callOf I .count) (I .destination)
+  pub destination-is : T (callOf I .passed) → destinationOf I ≡ bytesFrom (outcomeAt (callOf I)) (dw I) 0 (callOf I .count) (I .destination)
   unfolding destinationOf
   destination-is t = chosen (callOf I .passed) _ _ t
 

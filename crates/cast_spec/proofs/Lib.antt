@@ -3,6 +3,7 @@ pub mod Steps
 pub mod Each
 pub mod Places
 pub mod Demand3
+pub mod Demand1
 pub mod Strength
 pub mod Witness
 pub mod Sentences

@@ -19,7 +19,7 @@ use Rattle.bytes_le.proofs.Places.{first-place, next-place}
 -- ---- one outcome among those from a on
 module _ (o : ℕ → Outcome) (w : ℕ) where
   -- a refusal that is told lies at a or later
-  later : (a n : ℕ) → 5 ≤ numberOf (answerFrom o a n) → a ≤ positionOf (answerFrom o a n)
+  pub later : (a n : ℕ) → 5 ≤ numberOf (answerFrom o a n) → a ≤ positionOf (answerFrom o a n)
   later a zero h = absurd (omega arith)
   later a (suc n) h = go (o a) (later (suc a) n) h
     where
@@ -42,7 +42,7 @@ module _ (o : ℕ → Outcome) (w : ℕ) where
       go (OutOfRange v lo hi) = (refl, refl)
       go (FloatOutOfRange v lo hi) = (refl, refl)
 
-  -- and the one at a + i, where None is refused before it
+  -- and the one at a + i, where none is refused before it
   pub served : (k : Kind) (i a n : ℕ) (d : List ℕ) → 256 ^ w ≡ 2 ^ bits k → i < n → ((j : ℕ) → a ≤ j → j < a + i → Refuses (o j) → ⊥)
       → Served k (answerFrom o a n) (valueOf k (patternAt w (bytesFrom o w a n d) i)) (a + i) (o (a + i))
   served k i a zero d fit h before = absurd (omega arith)

@@ -1,0 +1,139 @@
+// The fourteen samples as bytes through the chunk call: each line is the answer's number, the position of a refusal, and the destination's bytes, which began as aa.
+ghost use mathlib.Core.Path.{_≡_};
+ghost use Prim.Native.Nat.{_≤_, _+_};
+ghost use lib.ListN.{length};
+use kinds::Answer;
+use libc::STDOUT_FILENO;
+
+fn wide(x: u8) -> u64 {
+    x as u64
+}
+
+// The bytes of a destination, in their order.
+fn print_bytes(d: &[u8]) {
+    for i in 0..d.len() {
+        io::print_hex(STDOUT_FILENO, wide(d[i]), 2);
+    }
+    io::write_all(STDOUT_FILENO, b"\n");
+}
+
+fn print_answer(a: Answer, d: &[u8]) {
+    let number = kinds::number(a);
+    io::print_decimal(STDOUT_FILENO, wide(number));
+    if 5 <= number {
+        io::write_all(STDOUT_FILENO, b" at ");
+        io::print_decimal(STDOUT_FILENO, kinds::position(a) as u64);
+    }
+    io::write_all(STDOUT_FILENO, b": ");
+    print_bytes(d);
+}
+
+// The first sw bytes of s to the first dw bytes of d, with no map.
+fn call(s: &[u8], d: &mut [u8], sw: usize, dw: usize, from: u8, to: u8, rounding: u8, range: u8)
+    requires { ⌜ (sw ≤ length (now s)) × (dw ≤ length (now d)) ⌝ }
+{
+    let none = &s[0..0];
+    let a = chunk::convert(
+        &s[0..sw],
+        &mut d[0..dw],
+        none,
+        none,
+        from,
+        to,
+        rounding,
+        range,
+    );
+    print_answer(a, &d[0..dw]);
+}
+
+// One element of sw bytes, whose pattern is x, to one of dw bytes.
+fn sample(x: u64, sw: usize, dw: usize, from: u8, to: u8, rounding: u8, range: u8)
+    requires { ⌜ (sw ≤ 8) × (dw ≤ 8) ⌝ }
+{
+    let mut s = [0u8; 8];
+    bytes_le::put8(&mut s, x);
+    let mut d = [0xaau8; 8];
+    call(&s, &mut d, sw, dw, from, to, rounding, range);
+}
+
+fn to_integers() {
+    // 1. 2.5 f64 to u8: nearest-even 2, nearest-away 3
+    sample(0x4004000000000000, 8, 1, 9, 4, 0, 0);
+    sample(0x4004000000000000, 8, 1, 9, 4, 4, 0);
+    // 2. -0.5 to u8: nearest-even 0; towards-negative: 6, clamp 0, wrap 255
+    sample(0xbfe0000000000000, 8, 1, 9, 4, 0, 0);
+    sample(0xbfe0000000000000, 8, 1, 9, 4, 3, 0);
+    sample(0xbfe0000000000000, 8, 1, 9, 4, 3, 1);
+    sample(0xbfe0000000000000, 8, 1, 9, 4, 3, 2);
+    // 3. 0.49999999999999994, nearest-away, to i32: 0
+    sample(0x3fdfffffffffffff, 8, 4, 9, 2, 4, 0);
+    // 4. 2^63 f64 to i64: 6; clamp 2^63 - 1; wrap -2^63
+    sample(0x43e0000000000000, 8, 8, 9, 3, 0, 0);
+    sample(0x43e0000000000000, 8, 8, 9, 3, 0, 1);
+    sample(0x43e0000000000000, 8, 8, 9, 3, 0, 2);
+    // 5. NaN to i32 under clamp: 5
+    sample(0x7ff8000000000000, 8, 4, 9, 2, 0, 1);
+    // 6. 300 f64 to i8, wrap: 44
+    sample(0x4072c00000000000, 8, 1, 9, 0, 0, 2);
+    // 7. 255 u8 to i8: clamp 127, wrap -1
+    sample(0xff, 1, 1, 4, 0, 0, 1);
+    sample(0xff, 1, 1, 4, 0, 0, 2);
+}
+
+fn to_floats() {
+    // 8. 16777217 i64 to f32: nearest-even 16777216, nearest-away 16777218; its negative, towards-positive, -16777216
+    sample(0x0000000001000001, 8, 4, 3, 8, 0, 0);
+    sample(0x0000000001000001, 8, 4, 3, 8, 4, 0);
+    sample(0xfffffffffeffffff, 8, 4, 3, 8, 2, 0);
+    // 9. 2^64 - 1 u64 to f64: nearest-even 2^64; towards-zero 18446744073709549568
+    sample(0xffffffffffffffff, 8, 8, 7, 9, 0, 0);
+    sample(0xffffffffffffffff, 8, 8, 7, 9, 1, 0);
+    // 10. 2^128 - 2^103 f64 to f32: towards-zero bits 7f7fffff; nearest-even 7
+    sample(0x47effffff0000000, 8, 4, 9, 8, 1, 0);
+    sample(0x47effffff0000000, 8, 4, 9, 8, 0, 0);
+    // 11. 2^128, towards-zero: 7; clamp +infinity
+    sample(0x47f0000000000000, 8, 4, 9, 8, 1, 0);
+    sample(0x47f0000000000000, 8, 4, 9, 8, 1, 1);
+    // 12. 2^-150 to f32: nearest-even +0, nearest-away 2^-149
+    sample(0x3690000000000000, 8, 4, 9, 8, 0, 0);
+    sample(0x3690000000000000, 8, 4, 9, 8, 4, 0);
+    // 13. -2^-200 to f32, towards-positive: -0
+    sample(0xb370000000000000, 8, 4, 9, 8, 2, 0);
+}
+
+// The eight bytes of x, at a place of d.
+fn put(d: &mut [u8], at: usize, x: u64)
+    requires { ⌜ at + 8 ≤ length (now d) ⌝ }
+    ensures { λ _. ⌜ length (now (d .exit)) ≡ length (now (d .entry)) ⌝ }
+{
+    let end = at + 8;
+    bytes_le::put8(&mut d[at..end], x);
+}
+
+// 14. Map NaN to 9, 0 to 7, 0 to 8: -0 gives 7.
+fn mapped() {
+    let mut keys = [0u8; 24];
+    put(&mut keys, 0, 0x7ff8000000000000);
+    let targets = [9, 7, 8];
+    let mut s = [0u8; 8];
+    bytes_le::put8(&mut s, 0x8000000000000000);
+    let mut d = [0xaau8; 1];
+    let a = chunk::convert(&s, &mut d, &keys, &targets, 9, 4, 0, 0);
+    print_answer(a, &d);
+}
+
+// 2.5 and 300 f64 to u8: the first is converted, and the second refused.
+fn two() {
+    let mut s = [0u8; 16];
+    put(&mut s, 0, 0x4004000000000000);
+    put(&mut s, 8, 0x4072c00000000000);
+    let mut d = [0xaau8; 2];
+    call(&s, &mut d, 16, 2, 9, 4, 0, 0);
+}
+
+fn main() {
+    to_integers();
+    to_floats();
+    mapped();
+    two();
+}
