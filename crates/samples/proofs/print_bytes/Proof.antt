@@ -1,15 +1,9 @@
 -- `samples::print_bytes` has nothing to keep: the measure is what is left of the bytes.
 -- Assumes nothing.
-use Prim.Native.Nat.{_≤_}
-use Prim.Native.Nat.{_-_}
+use Prim.Native.Nat.{_-_, _≤_}
 use borrow.Author.Needs.{needs}
 use Rattle.samples.proofs.print_bytes.Statement.{statement}
 use Rattle.samples.proofs.print_bytes.Tie as tie
-use Rattle.samples.proofs.print_bytes.Reads as reads
-use Rattle.samples.proofs.print_bytes.Lts as lts
-use Rattle.io.proofs.print_hex.Reads as print-hex-reads
-use Rattle.io.proofs.write_all.Reads as write-all-reads
-use Rattle.samples.proofs.wide.Reads as wide-reads
 
 abbrev Inv-loop : tie.InvT-loop
 Inv-loop d i₀ t3 i-end i = i ≤ i-end
@@ -17,43 +11,33 @@ Inv-loop d i₀ t3 i-end i = i ≤ i-end
 abbrev μ-loop : tie.MeasureT-loop
 μ-loop d i₀ t3 i-end i = i-end - i
 
--- src/main.rt:14:5
 loop-holds : tie.Need-loop-holds Inv-loop μ-loop
 loop-holds c = search needs
 
--- src/main.rt:15:43
 shared-slice-read-wide : tie.Need-shared-slice-read-wide Inv-loop μ-loop
 shared-slice-read-wide c = search needs
 
--- src/main.rt:15:38
 wide-requires : tie.Need-wide-requires Inv-loop μ-loop
 wide-requires c κs = search needs
 
--- src/main.rt:15:9
 print-hex-requires : tie.Need-print-hex-requires Inv-loop μ-loop
 print-hex-requires c κs = search needs
 
--- src/main.rt:14:9
 add-i : tie.Need-add-i Inv-loop μ-loop
 add-i c = search needs
 
--- src/main.rt:14:5
 loop-less : tie.Need-loop-less Inv-loop μ-loop
 loop-less c = search needs
 
--- src/main.rt:14:5
 loop-again : tie.Need-loop-again Inv-loop μ-loop
 loop-again c = search needs
 
--- src/main.rt:17:34
 slice-aggregate-write-all : tie.Need-slice-aggregate-write-all Inv-loop μ-loop
 slice-aggregate-write-all c = search needs
 
--- src/main.rt:17:5
 write-all-requires : tie.Need-write-all-requires Inv-loop μ-loop
 write-all-requires c κs = search needs
 
--- src/main.rt:13:1
 returns : tie.Need-returns Inv-loop μ-loop
 returns c = search needs
 

@@ -1,0 +1,403 @@
+// Each leaf on the samples and on the ends of each kind: a line names the leaf and has what it was given and what it answered, in hexadecimal.
+ghost use mathlib.Core.Path.{_≡_};
+ghost use Prim.Native.Nat.{_<_, _≤_, _+_};
+ghost use lib.ListN.{length};
+ghost use Rattle.integers.specs.Magnitude.{IntegerPattern};
+use grid::RoundingMode;
+use libc::STDOUT_FILENO;
+use mapping::Lookup;
+
+fn text(s: &[u8]) {
+    io::write_all(STDOUT_FILENO, s);
+}
+
+fn number(n: u64, width: usize) {
+    io::write_all(STDOUT_FILENO, b" ");
+    io::print_hex(STDOUT_FILENO, n, width);
+}
+
+fn end() {
+    io::write_all(STDOUT_FILENO, b"\n");
+}
+
+fn wide(x: u32) -> u64 {
+    x as u64
+}
+
+fn sign(negative: bool) {
+    if negative {
+        text(b" -");
+    } else {
+        text(b" +");
+    }
+}
+
+// ---- bytes
+
+// The width bytes of x at a place among others, and what is read there.
+fn bytes(s: &mut [u8], x: u64)
+    requires { ⌜ length (now s) ≡ 8 ⌝ }
+    ensures { λ _. ⌜ length (now (s .exit)) ≡ 8 ⌝ }
+{
+    text(b"bytes");
+    bytes_le::put8(s, x);
+    number(bytes_le::get1(&s[0..1]), 2);
+    number(bytes_le::get2(&s[0..2]), 4);
+    number(bytes_le::get4(&s[0..4]), 8);
+    number(bytes_le::get8(&s[0..8]), 16);
+    end();
+}
+
+// ---- float parts
+
+fn parts_64(b: u64) {
+    let p = floats::parts_f64(b);
+    text(b"parts_f64");
+    number(b, 16);
+    sign(p.negative);
+    number(p.exponent, 3);
+    number(p.fraction, 13);
+    end();
+}
+
+fn parts_32(b: u32) {
+    let p = floats::parts_f32(b);
+    text(b"parts_f32");
+    number(wide(b), 8);
+    sign(p.negative);
+    number(p.exponent, 2);
+    number(p.fraction, 6);
+    end();
+}
+
+fn neighbours_64(b: u64) {
+    text(b"next_down_f64, next_up_f64");
+    number(b, 16);
+    number(floats::next_down_f64(b), 16);
+    number(floats::next_up_f64(b), 16);
+    end();
+}
+
+fn neighbours_32(b: u32) {
+    text(b"next_down_f32, next_up_f32");
+    number(wide(b), 8);
+    number(wide(floats::next_down_f32(b)), 8);
+    number(wide(floats::next_up_f32(b)), 8);
+    end();
+}
+
+fn widened(b: u32) {
+    text(b"widen");
+    number(wide(b), 8);
+    number(floats::widen(b), 16);
+    end();
+}
+
+fn narrowed_nan(b: u64) {
+    text(b"narrow_nan");
+    number(b, 16);
+    number(wide(floats::narrow_nan(b)), 8);
+    end();
+}
+
+fn float_parts() {
+    // 2.5, -0.5, the smallest subnormal, the largest number, an infinity, a NaN
+    parts_64(0x4004000000000000);
+    parts_64(0xbfe0000000000000);
+    parts_64(0x0000000000000001);
+    parts_64(0x7fefffffffffffff);
+    parts_64(0xfff0000000000000);
+    parts_64(0x7ff8000000000000);
+    parts_32(0x40200000);
+    parts_32(0x00000001);
+    parts_32(0xff7fffff);
+    parts_32(0x7f800000);
+    parts_32(0x7fc00001);
+}
+
+fn float_neighbours() {
+    // the zeros, the smallest and the largest numbers of both signs, the infinities, a NaN
+    neighbours_32(0x00000000);
+    neighbours_32(0x80000000);
+    neighbours_32(0x80000001);
+    neighbours_32(0x7f7fffff);
+    neighbours_32(0xff7fffff);
+    neighbours_32(0x7f800000);
+    neighbours_32(0xff800000);
+    neighbours_32(0x7fc00001);
+    neighbours_64(0x8000000000000001);
+    neighbours_64(0x7fefffffffffffff);
+    neighbours_64(0xfff0000000000000);
+    neighbours_64(0x3ff0000000000000);
+}
+
+fn float_widths() {
+    // a zero, the smallest subnormal, 2.5, the largest number, an infinity, a signalling NaN
+    widened(0x80000000);
+    widened(0x00000001);
+    widened(0x40200000);
+    widened(0x7f7fffff);
+    widened(0xff800000);
+    widened(0x7f800001);
+    narrowed_nan(0x7ff0000000000001);
+    narrowed_nan(0xfff8000020000000);
+}
+
+// ---- rounding to a whole number
+
+fn rounded_64(b: u64) {
+    text(b"round_with_mode_f64");
+    number(b, 16);
+    number(
+        rounding::round_with_mode_f64(b, RoundingMode::NearestEven),
+        16,
+    );
+    number(
+        rounding::round_with_mode_f64(b, RoundingMode::TowardsZero),
+        16,
+    );
+    number(
+        rounding::round_with_mode_f64(b, RoundingMode::TowardsPositive),
+        16,
+    );
+    number(
+        rounding::round_with_mode_f64(b, RoundingMode::TowardsNegative),
+        16,
+    );
+    number(
+        rounding::round_with_mode_f64(b, RoundingMode::NearestAway),
+        16,
+    );
+    end();
+}
+
+fn rounded_32(b: u32) {
+    text(b"round_with_mode_f32");
+    number(wide(b), 8);
+    number(
+        wide(rounding::round_with_mode_f32(b, RoundingMode::NearestEven)),
+        8,
+    );
+    number(
+        wide(rounding::round_with_mode_f32(b, RoundingMode::TowardsZero)),
+        8,
+    );
+    number(
+        wide(rounding::round_with_mode_f32(b, RoundingMode::TowardsPositive)),
+        8,
+    );
+    number(
+        wide(rounding::round_with_mode_f32(b, RoundingMode::TowardsNegative)),
+        8,
+    );
+    number(
+        wide(rounding::round_with_mode_f32(b, RoundingMode::NearestAway)),
+        8,
+    );
+    end();
+}
+
+fn whole_numbers() {
+    // 2.5, -0.5, 0.49999999999999994, the smallest subnormal, 2^52 - 0.5, 2^52 + 1, the largest number
+    rounded_64(0x4004000000000000);
+    rounded_64(0xbfe0000000000000);
+    rounded_64(0x3fdfffffffffffff);
+    rounded_64(0x8000000000000001);
+    rounded_64(0x432fffffffffffff);
+    rounded_64(0x4330000000000001);
+    rounded_64(0x7fefffffffffffff);
+    // 2.5, 0.49999997, 2^23 - 0.5, 2^23 + 1
+    rounded_32(0x40200000);
+    rounded_32(0x3effffff);
+    rounded_32(0x4affffff);
+    rounded_32(0x4b000001);
+}
+
+// ---- one rounding to 24 digits
+
+fn narrowed(x: u64)
+    requires { ⌜ x < 9223372036854775808 ⌝ }
+{
+    text(b"narrow_f32");
+    number(x, 16);
+    number(rounding::narrow_f32(x, RoundingMode::NearestEven, false), 8);
+    number(rounding::narrow_f32(x, RoundingMode::TowardsZero, false), 8);
+    number(
+        rounding::narrow_f32(x, RoundingMode::TowardsPositive, true),
+        8,
+    );
+    number(
+        rounding::narrow_f32(x, RoundingMode::TowardsNegative, true),
+        8,
+    );
+    number(rounding::narrow_f32(x, RoundingMode::NearestAway, false), 8);
+    end();
+}
+
+fn digits(magnitude: u64, negative: bool, count: u32)
+    requires { ⌜ (2 ≤ count) × (count ≤ 53) ⌝ }
+{
+    text(b"round_int_to_precision");
+    sign(negative);
+    number(magnitude, 16);
+    number(
+        integers::int_to_f64_bits(magnitude, negative, count, RoundingMode::NearestEven),
+        16,
+    );
+    number(
+        integers::int_to_f64_bits(magnitude, negative, count, RoundingMode::TowardsZero),
+        16,
+    );
+    number(
+        integers::int_to_f64_bits(magnitude, negative, count, RoundingMode::TowardsPositive),
+        16,
+    );
+    number(
+        integers::int_to_f64_bits(magnitude, negative, count, RoundingMode::TowardsNegative),
+        16,
+    );
+    number(
+        integers::int_to_f64_bits(magnitude, negative, count, RoundingMode::NearestAway),
+        16,
+    );
+    end();
+}
+
+fn digits_kept() {
+    // 2^128 - 2^103, 2^128, 2^-150, 2^-200
+    narrowed(0x47effffff0000000);
+    narrowed(0x47f0000000000000);
+    narrowed(0x3690000000000000);
+    narrowed(0x3370000000000000);
+    // 0, 16777217, its negative, 2^64 - 1
+    digits(0x0000000000000000, false, 24);
+    digits(0x0000000001000001, false, 24);
+    digits(0x0000000001000001, true, 24);
+    digits(0xffffffffffffffff, false, 24);
+    digits(0xffffffffffffffff, false, 53);
+    digits(0x8000000000000000, true, 53);
+}
+
+// ---- integers by sign and magnitude
+
+fn magnitude(b: u64, code: u8)
+    requires { ⌜ IntegerPattern b code ⌝ }
+{
+    let m = integers::int_magnitude(b, code);
+    text(b"int_magnitude");
+    number(b, 16);
+    sign(m.negative);
+    number(m.magnitude, 16);
+    end();
+}
+
+fn integer_ends() {
+    // i8, i16, i32, i64, each by its lowest, -1 and its highest
+    magnitude(0x80, 0);
+    magnitude(0xff, 0);
+    magnitude(0x7f, 0);
+    magnitude(0x8000, 1);
+    magnitude(0xffff, 1);
+    magnitude(0x7fff, 1);
+    magnitude(0x80000000, 2);
+    magnitude(0xffffffff, 2);
+    magnitude(0x7fffffff, 2);
+    magnitude(0x8000000000000000, 3);
+    magnitude(0xffffffffffffffff, 3);
+    magnitude(0x7fffffffffffffff, 3);
+    // u8, u16, u32, u64, each by its highest
+    magnitude(0xff, 4);
+    magnitude(0xffff, 5);
+    magnitude(0xffffffff, 6);
+    magnitude(0xffffffffffffffff, 7);
+}
+
+// ---- wrap
+
+fn wrapped(b: u64) {
+    text(b"wrap_integral_f64");
+    number(b, 16);
+    number(wrapping::wrap_integral_f64(b, 8), 2);
+    number(wrapping::wrap_integral_f64(b, 16), 4);
+    number(wrapping::wrap_integral_f64(b, 32), 8);
+    number(wrapping::wrap_integral_f64(b, 64), 16);
+    end();
+}
+
+fn residues() {
+    // 300, -1, -128, 2^63, -2^63, 2^64, 2^64 - 2^11, -(2^53 - 1), the largest number
+    wrapped(0x4072c00000000000);
+    wrapped(0xbff0000000000000);
+    wrapped(0xc060000000000000);
+    wrapped(0x43e0000000000000);
+    wrapped(0xc3e0000000000000);
+    wrapped(0x43f0000000000000);
+    wrapped(0x43efffffffffffff);
+    wrapped(0xc33fffffffffffff);
+    wrapped(0x7fefffffffffffff);
+}
+
+// ---- map
+
+fn looked_up(l: Lookup) {
+    match l {
+        Lookup::Found(target) => number(target, 2),
+        Lookup::Missing => text(b" none"),
+    }
+    end();
+}
+
+// NaN to 9, 0 to 7, 0 to 8
+fn float_map(b: u64) {
+    let mut keys = [0u8; 24];
+    put(&mut keys, 0, 0x7ff8000000000000);
+    let targets = [9, 7, 8];
+    text(b"apply_scalar_map_float");
+    number(b, 16);
+    looked_up(mapping::apply_scalar_map_float(b, &keys, &targets, 3, 9, 1));
+}
+
+// The eight bytes of x, at a place of d.
+fn put(d: &mut [u8], at: usize, x: u64)
+    requires { ⌜ at + 8 ≤ length (now d) ⌝ }
+    ensures { λ _. ⌜ length (now (d .exit)) ≡ length (now (d .entry)) ⌝ }
+{
+    let end = at + 8;
+    bytes_le::put8(&mut d[at..end], x);
+}
+
+// 255 to 1, 0 to 2, 255 to 3
+fn integer_map(b: u64)
+    requires { ⌜ b < 256 ⌝ }
+{
+    let keys = [255, 0, 255];
+    let targets = [1, 2, 3];
+    text(b"apply_scalar_map_int");
+    number(b, 2);
+    looked_up(mapping::apply_scalar_map_int(b, &keys, &targets, 3, 4, 1));
+}
+
+fn maps() {
+    float_map(0x8000000000000000);
+    float_map(0x0000000000000000);
+    float_map(0xfff0000000000001);
+    float_map(0x3ff0000000000000);
+    float_map(0x7ff0000000000000);
+    integer_map(0xff);
+    integer_map(0x00);
+    integer_map(0x01);
+}
+
+fn main() {
+    let mut s = [0u8; 8];
+    bytes(&mut s, 0x0123456789abcdef);
+    bytes(&mut s, 0xffffffffffffff80);
+    float_parts();
+    float_neighbours();
+    float_widths();
+    whole_numbers();
+    digits_kept();
+    integer_ends();
+    residues();
+    maps();
+}
