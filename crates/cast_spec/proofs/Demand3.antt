@@ -1,4 +1,5 @@
--- Demand 3 holds of the answer and the destination that the definitions give, whatever the inputs are. Assumes nothing.
+-- Demand 3 holds of the answer and the destination that the definitions give, whatever the inputs are.
+-- Assumes nothing.
 use mathlib.Core.Path.{_≡_, refl, sym, ap, subst, _∙_}
 use mathlib.Core.Bool.{Bool, true, false, _&&_, cond}
 use mathlib.Core.List.{List}

@@ -1,4 +1,5 @@
--- What is said of each element, from the answer and the place that its outcome gives it. Assumes nothing.
+-- What is said of each element, from the answer and the place that its outcome gives it.
+-- Assumes nothing.
 use mathlib.Core.Path.{_≡_, refl, sym, ap, subst, _∙_}
 use mathlib.Core.Bool.{Bool, true, false, cond}
 use Prim.Native.Nat.{ℕ, _^_, _<_}

@@ -1,4 +1,5 @@
--- The answer and the destination's places, from the outcomes. Assumes nothing.
+-- The answer and the destination's places, from the outcomes.
+-- Assumes nothing.
 use mathlib.Core.Path.{_≡_, refl, sym, ap, subst, _∙_}
 use mathlib.Core.List.{List}
 use Prim.Native.Nat.{ℕ, zero, suc, _+_, _%_, _^_, _≤_, _<_}

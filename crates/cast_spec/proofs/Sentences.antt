@@ -1,4 +1,5 @@
--- Sentences of the scope document that hold of the definitions. Assumes nothing.
+-- Sentences of the scope document that hold of the definitions.
+-- Assumes nothing.
 use mathlib.Core.Path.{_≡_, refl, sym, ap, subst}
 use mathlib.Core.Logic.{_≢_}
 use mathlib.Core.Bool.{true}
@@ -16,7 +17,7 @@ use Rattle.grid.specs.Round.{pick}
 use Rattle.patterns.specs.Float.{bitsMag, infBits}
 use Rattle.grid.proofs.Int.{ints, up-neg, dn-neg, abs-is}
 use Rattle.grid.proofs.Picked.{pick-mono, pick-own}
-use Rattle.grid.proofs.Neighbours.{halved}
+use Rattle.grid.proofs.Neighbours.{pow-twice-pred}
 use Rattle.patterns.specs.Kind.{binary, lowest, highest, InRange}
 use Rattle.patterns.specs.Value.{nan, negative, valueOf}
 use Rattle.patterns.specs.Pattern.{quiet, nanPattern}
@@ -29,7 +30,7 @@ unfolding nanPattern
 nan-stays p w s p′ w′ s′ b ne two some = simp (ne-eqb p p′ ne) (floats.nan-back p′ w′ s′ two some (negative (binary p w s) b) (quiet p p′ b) (omega (arith, pow-pos (p′ - 2))) (below (b % 2 ^ (p - 1) * 2 ^ (p′ - 1) / 2 ^ (p - 1)) p′ two))
   where
     below : (t p : ℕ) → 2 ≤ p → 2 ^ (p - 2) + t % 2 ^ (p - 2) < 2 ^ (p - 1)
-    below t p two = omega (arith, mod-lt t (pow-pos (p - 2)), halved (p - 1) (omega arith), ap (λ (z : ℕ). 2 ^ z) (less p two))
+    below t p two = omega (arith, mod-lt t (pow-pos (p - 2)), pow-twice-pred (p - 1) (omega arith), ap (λ (z : ℕ). 2 ^ z) (less p two))
       where
         less : (p : ℕ) → 2 ≤ p → p - 1 - 1 ≡ p - 2
         less p h = omega arith

@@ -1,4 +1,5 @@
--- What demand 3 settles: an element that is not refused has one result. Assumes nothing.
+-- What demand 3 settles: an element that is not refused has one result.
+-- Assumes nothing.
 use mathlib.Core.Path.{_≡_, sym, ap, subst, _∙_}
 use mathlib.Core.Bool.{Bool, true, false}
 use Prim.Native.Nat.{ℕ, suc, _+_, _-_, _*_, _^_, _≤_, _<_}
@@ -9,7 +10,7 @@ use lib.Pow.{pow-pos}
 use lib.Signed.{_≤ℤ_, _<ℤ_}
 use Rattle.grid.proofs.Int.{up, dn, ints, split, →eq, up-neg, dn-neg}
 use Rattle.grid.proofs.Order.{unique}
-use Rattle.grid.proofs.Neighbours.{cut, halved}
+use Rattle.grid.proofs.Neighbours.{cut, pow-twice-pred}
 use Rattle.patterns.specs.Kind.{Kind, integer, binary, gridOf, highInt, lowest, highest, InRange, WellFormed}
 use Rattle.patterns.specs.Value.{Value, num}
 use Rattle.kinds.specs.declared.OutOfRangeMode.{OutOfRangeMode}
@@ -48,7 +49,7 @@ spread : (s : Bool) (n u : ℕ) → 0 < n → 0 < u → (z z′ : ℤ) → lowIn
 spread true n u some unit z z′ l h =
     let H = 2 ^ (n - 1) in
     let a : H * u ≡ (H - 1) * u + u = ap (λ (x : ℕ). x * u) (back H (pow-pos (n - 1))) ∙ suc-mul (H - 1) u in
-    let b : 2 ^ n * u ≡ H * u + H * u = ap (λ (x : ℕ). x * u) (halved n some ∙ twice H) ∙ add-mul H H u in
+    let b : 2 ^ n * u ≡ H * u + H * u = ap (λ (x : ℕ). x * u) (pow-twice-pred n some ∙ twice H) ∙ add-mul H H u in
     omega (ints, up-neg (pos (H * u)), dn-neg (pos (H * u)))
   where
     back : (H : ℕ) → 0 < H → H ≡ suc (H - 1)

@@ -1,4 +1,5 @@
--- Demand 3 as one claim about a call: its answer r, and res, the number at each place of the destination after it. Assumes nothing.
+-- Demand 3 as one claim about a call: its answer r, and res, the number at each place of the destination after it.
+-- Assumes nothing.
 use mathlib.Core.Path.{_≡_}
 use mathlib.Core.Bool.{true, false, not}
 use mathlib.Core.List.{List, List·Memᴰ}

@@ -17,7 +17,7 @@ use Rattle.grid.specs.Round.{signed}
 use Rattle.kinds.specs.declared.OutOfRangeMode.the-variants.{Clamp, None, Wrap}
 use Rattle.kinds.specs.declared.OutOfRangeMode.{OutOfRangeMode}
 use Rattle.kinds.specs.declared.Outcome.the-variants.{Stored, OutOfRange}
-use Rattle.grid.proofs.Neighbours.{cut, halved}
+use Rattle.grid.proofs.Neighbours.{cut, pow-twice-pred}
 use Rattle.element.specs.Convert.{endMag, Held, fitted, pastOf}
 use Rattle.cast_spec.specs.Element.{inRange, nearerEnd, beyond, ranged}
 use Rattle.patterns.specs.Pattern.{lowBits, patternOf}
@@ -143,7 +143,7 @@ module _ (s : Bool) (n : ℕ) (neg : Bool) (N : ℕ) where
 -- ---- what a program has in hand: the magnitude modulo 2^64, and whether it reaches 2^64
 end-lt : (s : Bool) (n : ℕ) (neg : Bool) → 0 < n → n ≤ 64 → endMag (integer s n) neg < 2 ^ 64
 unfolding endMag
-end-lt s n neg some most = go s neg (pow-mono {j = 64} most) (halved n some) (pow-pos (n - 1))
+end-lt s n neg some most = go s neg (pow-mono {j = 64} most) (pow-twice-pred n some) (pow-pos (n - 1))
   where
     go : (s neg : Bool) → 2 ^ n ≤ 2 ^ 64 → 2 ^ n ≡ 2 * 2 ^ (n - 1) → 0 < 2 ^ (n - 1) → cond neg (cond s (2 ^ (n - 1)) 0) (highInt s n) < 2 ^ 64
     go true true a b c = omega arith

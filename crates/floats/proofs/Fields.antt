@@ -11,7 +11,7 @@ use lib.Dec.{eqb, leb}
 use lib.Pow.{pow-pos, mod-pow-add, field, mod-mod-pow}
 use borrow.Author.Tests.{le-leb, lt-leb, lt-ltb, le-ltb, eq-eqb, ne-eqb, eqb-true, eqb-false}
 use Rattle.grid.specs.Round.{signed}
-use Rattle.grid.proofs.Neighbours.{cut, halved}
+use Rattle.grid.proofs.Neighbours.{cut, pow-twice-pred}
 use Rattle.patterns.specs.Float.{fieldMag, bitsMag, infBits}
 use Rattle.patterns.specs.Kind.{binary}
 use Rattle.patterns.specs.Value.{nan, inf, num, negative, floatValue, valueOf}
@@ -29,7 +29,7 @@ sign-bit b t h = cut b t
 -- ---- shifts and masks
 pub parts-is : (p w b : ℕ) → 0 < w + p → b < 2 ^ (w + p)
     → _≡_ {A = Parts} (record { negative = eqb (b / 2 ^ (w + p - 1)) 1; exponent = bitAnd (b / 2 ^ (p - 1)) (2 ^ w - 1); fraction = bitAnd b (2 ^ (p - 1) - 1) }) (partsOf p w b)
-parts-is p w b some h = simp (sign-bit b (2 ^ (w + p - 1)) (lt-of-lt-of-le h (omega (arith, halved (w + p) some))), and-mask (b / 2 ^ (p - 1)) w, and-mask b (p - 1))
+parts-is p w b some h = simp (sign-bit b (2 ^ (w + p - 1)) (lt-of-lt-of-le h (omega (arith, pow-twice-pred (w + p) some))), and-mask (b / 2 ^ (p - 1)) w, and-mask b (p - 1))
 
 -- ---- the bits below the sign are the field over the fraction
 module _ (p w b : ℕ) (some : 0 < p) where
@@ -120,7 +120,7 @@ class-value p w s b two some = by-field (fieldOf p w b) refl
     P = omega arith
 
     ones : 0 < 2 ^ w - 1
-    ones = omega (arith, halved w some, pow-pos (w - 1))
+    ones = omega (arith, pow-twice-pred w some, pow-pos (w - 1))
 
     number : (f m e : ℕ) → fieldOf p w b ≡ f → f < 2 ^ w - 1 → classFrom p w f t ≡ Finite m e → fieldMag p s f t ≡ m * 2 ^ (e + s) → classValue s neg (classOf p w b) ≡ floatValue p w s neg x
     number f m e is l c g =

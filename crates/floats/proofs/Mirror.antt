@@ -1,4 +1,5 @@
--- `nextDown` gives the next number down: the order of the values turned about by the sign. Assumes nothing.
+-- `nextDown` gives the next number down: the order of the values turned about by the sign.
+-- Assumes nothing.
 use mathlib.Core.Path.{_≡_, refl, sym, ap, ap₂, subst, _∙_}
 use mathlib.Core.Bool.{Bool, true, false, not, cond}
 use Prim.Native.Nat.{ℕ, _+_, _-_, _*_, _/_, _%_, _^_, _≤_, _<_}
@@ -11,7 +12,7 @@ use lib.Pow.{pow-pos}
 use borrow.Author.Tests.{le-leb, lt-leb}
 use Rattle.grid.specs.Round.{signed}
 use Rattle.grid.proofs.Int.{ints, up-neg, dn-neg}
-use Rattle.grid.proofs.Neighbours.{cut, halved}
+use Rattle.grid.proofs.Neighbours.{cut, pow-twice-pred}
 use Rattle.patterns.specs.Float.{bitsMag, infBits}
 use Rattle.patterns.specs.Kind.{Kind, binary}
 use Rattle.patterns.specs.Value.{Value, nan, inf, num, negative, floatValue, valueOf}
@@ -129,5 +130,5 @@ flip-sign p w b some h =
 pub turned : (p w b r : ℕ) → 0 < w + p → b < 2 ^ (w + p) → r < 2 ^ (w + p) → r ≡ nextUp p w (bitXor b (2 ^ (w + p - 1))) → bitXor r (2 ^ (w + p - 1)) ≡ nextDown p w b
 unfolding nextDown
 turned p w b r some h l e =
-    flip-sign p w r some (omega (arith, halved (w + p) some))
-    ∙ ap (opposite p w) (e ∙ ap (nextUp p w) (flip-sign p w b some (omega (arith, halved (w + p) some))))
+    flip-sign p w r some (omega (arith, pow-twice-pred (w + p) some))
+    ∙ ap (opposite p w) (e ∙ ap (nextUp p w) (flip-sign p w b some (omega (arith, pow-twice-pred (w + p) some))))

@@ -1,4 +1,5 @@
--- The order of the values is the order of the signed bits, for any precision, exponent width and spacing. Assumes nothing.
+-- The order of the values is the order of the signed bits, for any precision, exponent width and spacing.
+-- Assumes nothing.
 use mathlib.Core.Path.{_≡_, sym, ap, subst, _∙_}
 use mathlib.Core.Bool.{Bool, true, false, not}
 use Prim.Native.Nat.{ℕ, _+_, _^_, _≤_, _<_}

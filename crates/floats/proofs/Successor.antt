@@ -1,4 +1,5 @@
--- `nextUp` gives the next number up, for any precision, exponent width and spacing. Assumes nothing.
+-- `nextUp` gives the next number up, for any precision, exponent width and spacing.
+-- Assumes nothing.
 use mathlib.Core.Path.{_≡_, refl, sym, ap, subst, _∙_}
 use mathlib.Core.Bool.{Bool, true, false}
 use Prim.Native.Nat.{ℕ, suc, _+_, _-_, _*_, _%_, _^_, _≤_, _<_}
@@ -9,7 +10,7 @@ use lib.IntN.{pos, negℤ, natAbs}
 use borrow.Author.Tests.{le-leb, lt-leb, lt-ltb, le-ltb, eq-eqb, ne-eqb}
 use Rattle.grid.specs.Round.{signed}
 use Rattle.grid.proofs.Int.{up, dn, ints, up-neg, dn-neg}
-use Rattle.grid.proofs.Neighbours.{cut, halved}
+use Rattle.grid.proofs.Neighbours.{cut, pow-twice-pred}
 use Rattle.patterns.specs.Float.{bitsMag, infBits}
 use Rattle.patterns.specs.Kind.{binary, f32}
 use Rattle.patterns.specs.Value.{inf, num, negative, floatValue, valueOf}
@@ -59,7 +60,7 @@ module _ (p w s b : ℕ) (two : 2 ≤ p) (one : 0 < w) (fit : b < 2 ^ (w + p)) w
   neg = negative (binary p w s) b
 
   double : 2 ^ (w + p) ≡ 2 * H
-  double = halved (w + p) (omega arith)
+  double = pow-twice-pred (w + p) (omega arith)
 
   inf-under : I < H
   inf-under = floats.inf-lt p w s two one

@@ -13,7 +13,7 @@ use borrow.Author.Tests.{le-leb, lt-leb}
 use Rattle.grid.specs.Grid.{float, OnMag}
 use Rattle.grid.specs.Round.{signed}
 use Rattle.grid.specs.declared.RoundingMode.the-variants.{NearestEven}
-use Rattle.grid.proofs.Neighbours.{cut, halved, finer}
+use Rattle.grid.proofs.Neighbours.{cut, pow-twice-pred, finer}
 use Rattle.patterns.specs.Float.{fieldMag, bitsMag, infBits}
 use Rattle.patterns.specs.Kind.{binary, f32, f64}
 use Rattle.patterns.specs.Value.{negative, valueOf}
@@ -45,7 +45,7 @@ module _ (p s : ℕ) (two : 2 ≤ p) where
 -- a leading bit over p - 1 bits t keeps its place with d bits more, and the field counts the spacings from 2 ^ s: c of them fewer
 pub mag-normal : (p d c s x t : ℕ) → 2 ≤ p → t < 2 ^ (p - 1) → magBits (p + d) s ((2 ^ (p - 1) + t) * 2 ^ (d + (x + c + s))) ≡ suc (x + c) * 2 ^ (p + d - 1) + t * 2 ^ d
 mag-normal p d c s x t two h =
-    mag-shifted (p + d) s (omega arith) (2 ^ (p - 1) + t) d (x + c) (omega (arith, moved)) (omega (arith, moved, halved (p + d) (omega arith), under))
+    mag-shifted (p + d) s (omega arith) (2 ^ (p - 1) + t) d (x + c) (omega (arith, moved)) (omega (arith, moved, pow-twice-pred (p + d) (omega arith), under))
     ∙ omega (arith, moved)
   where
     top : 2 ^ (p - 1) * 2 ^ d ≡ 2 ^ (p + d - 1)
@@ -104,7 +104,7 @@ module _ (n p s a : ℕ) (two : 2 ≤ p) (wide : p ≤ n) (fine : p ≤ s) (some
   wider-subnormal = ap (λ (z : ℕ). magBits p 0 (a * 2 ^ z)) (omega (arith, places)) ∙ mag-shifted p 0 two a shift (s - shift) full shifted-lt
 
   pub subnormal-lt : magBits p 0 (a * 2 ^ s) < (s + 2) * 2 ^ (p - 1)
-  subnormal-lt = omega (arith, wider-subnormal, shifted-lt, halved p (omega arith), mul-le-mul-right (2 ^ (p - 1)) (sub-le s shift))
+  subnormal-lt = omega (arith, wider-subnormal, shifted-lt, pow-twice-pred p (omega arith), mul-le-mul-right (2 ^ (p - 1)) (sub-le s shift))
 
 -- ---- what `asF64` gives, by the kind of value
 module _ (p w s b : ℕ) (two : 2 ≤ p) (some : 0 < w) where

@@ -1,4 +1,5 @@
--- ℤ for `omega`: each number by its two parts, one of which is 0. Assumes nothing.
+-- ℤ for `omega`: each number by its two parts, one of which is 0.
+-- Assumes nothing.
 use mathlib.Core.Path.{_≡_, refl, ap, _∙_}
 use mathlib.Core.Bool.{Bool, true, false, not, cond}
 use Prim.Native.Nat.{ℕ, zero, suc, _+_, _-_, _≤_, _<_, min}
@@ -102,6 +103,3 @@ dist-up x y h = omega (ints, dist-is x y)
 
 pub dist-dn : (x y : ℤ) → y ≤ℤ x → dist x y + (up y + dn x) ≡ up x + dn y
 dist-dn x y h = omega (ints, dist-is x y)
-
-pub lt-le : (x y : ℤ) → x <ℤ y → x ≤ℤ y
-lt-le x y h = omega ints

@@ -1,4 +1,5 @@
--- The pick of m * 2 ^ e from m's own digits: what a program computes. Assumes nothing.
+-- The pick of m * 2 ^ e from m's own digits: what a program computes.
+-- Assumes nothing.
 use mathlib.Core.Path.{_≡_, refl, sym, ap, _∙_, subst}
 use mathlib.Core.Bool.{Bool, true, false}
 use Prim.Native.Nat.{ℕ, zero, suc, _+_, _-_, _*_, _/_, _%_, _^_, _≤_, _<_, max}

@@ -1,4 +1,5 @@
--- The two grid numbers about a magnitude n: q * u and (q + 1) * u, with no grid number between, and one of them even. Assumes nothing.
+-- The two grid numbers about a magnitude n: q * u and (q + 1) * u, with no grid number between, and one of them even.
+-- Assumes nothing.
 use mathlib.Core.Path.{_≡_, refl, sym, ap, subst, _∙_}
 use mathlib.Core.Logic.{_⊎_, inl, inr}
 use mathlib.Core.Bool.{Bool, true, false, not}
@@ -87,8 +88,8 @@ cell-whole k n = let q = n / 2 ^ k in record {
 double : (a : ℕ) → 2 ^ suc a ≡ 2 * 2 ^ a
 double a = omega arith
 
-pub halved : (p : ℕ) → 0 < p → 2 ^ p ≡ 2 * 2 ^ (p - 1)
-halved p h = ap (λ (x : ℕ). 2 ^ x) (back p h) ∙ double (p - 1)
+pub pow-twice-pred : (p : ℕ) → 0 < p → 2 ^ p ≡ 2 * 2 ^ (p - 1)
+pow-twice-pred p h = ap (λ (x : ℕ). 2 ^ x) (back p h) ∙ double (p - 1)
   where
     back : (p : ℕ) → 0 < p → p ≡ suc (p - 1)
     back p h = omega arith
@@ -119,7 +120,7 @@ module _ (p s k m : ℕ) (two : 2 ≤ p) (sk : s ≤ k) (small : m ≤ 2 ^ p) (f
   at-top : 2 ^ p ≤ m → Written (float p s) (m * 2 ^ k) (2 ^ (p - 1)) (suc k)
   at-top h =
       let e : m ≡ 2 ^ p = omega arith in
-      let a = halved p P in
+      let a = pow-twice-pred p P in
       let b = pow-pos (p - 1) in
       (omega arith, omega arith, ap (λ (x : ℕ). x * 2 ^ k) (e ∙ a) ∙ omega (arith, ap (λ (x : ℕ). 2 ^ (p - 1) * x) (double k)))
 
@@ -141,11 +142,11 @@ module _ (p s k m : ℕ) (two : 2 ≤ p) (sk : s ≤ k) (small : m ≤ 2 ^ p) (f
       (λ (h : 2 ^ p ≤ m). record { m = 2 ^ (p - 1); e = suc k; is = at-top h; least = λ m′ e′ w. not-k m′ e′ h w; even = half-even p two })
     where
       half-even : (p : ℕ) → 2 ≤ p → 2 ^ (p - 1) % 2 ≡ 0
-      half-even p h = omega (arith, halved (p - 1) (omega arith))
+      half-even p h = omega (arith, pow-twice-pred (p - 1) (omega arith))
 
   odd-float : m % 2 ≡ 1 → EvenMag (float p s) (m * 2 ^ k) → ⊥
   odd-float o v =
-      let h : m < 2 ^ p = omega (arith, halved p P) in
+      let h : m < 2 ^ p = omega (arith, pow-twice-pred p P) in
       let e : v .e ≡ k = omega (arith, v .least m k (at-k h), no-less (v .m) (v .e) (v .is)) in
       let a : m * 2 ^ k ≡ v .m * 2 ^ k = v .is .2 ∙ ap (λ (x : ℕ). v .m * 2 ^ x) e in
       let b : m ≡ v .m = eq-of-mul-eq-mul-right (2 ^ k) (pow-pos k) m (v .m) a in

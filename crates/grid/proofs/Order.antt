@@ -1,4 +1,5 @@
--- Of two picks by one rule on one grid, the larger number has the pick that is no smaller. Assumes nothing.
+-- Of two picks by one rule on one grid, the larger number has the pick that is no smaller.
+-- Assumes nothing.
 use mathlib.Core.Path.{_≡_, refl, sym, ap, subst}
 use mathlib.Core.Logic.{_≢_}
 use Prim.Native.Nat.{_^_}

@@ -34,7 +34,7 @@ OnGrid g x = OnMag g (natAbs x)
 abbrev pub EvenOn : Grid → ℤ → Type 0
 EvenOn g x = EvenMag g (natAbs x)
 
--- a precision of one bit would have no even numbers beside its odd ones
+-- with one bit of precision both neighbours of a halfway number would be odd
 abbrev pub Sound : Grid → Type 0
 Sound (whole k) = Unit {0}
 Sound (float p s) = 2 ≤ p

@@ -1,4 +1,5 @@
--- How many binary digits a number has, by its leading zeros. Assumes nothing.
+-- How many binary digits a number has, by its leading zeros.
+-- Assumes nothing.
 use mathlib.Core.Path.{_≡_}
 use Prim.Native.Nat.{ℕ, _+_, _-_, _*_, _^_, _≤_, _<_}
 use native.Mathlib.Nat.{le-trans}
@@ -7,12 +8,12 @@ use lib.Count.{leadingZeros, leading-unique}
 use lib.Pow.{pow-mono}
 use lib.Ieee.{size}
 use lib.Ieee.Digits.{size-lt, size-le, size-reaches}
-use Rattle.grid.proofs.Neighbours.{cut, halved}
+use Rattle.grid.proofs.Neighbours.{cut, pow-twice-pred}
 
 -- a number of z digits is at least half of 2 ^ z, but for 0
 reaches : (a : ℕ) → 2 ^ size a ≤ 2 * a + 1
 reaches a = cut 0 (size a)
-    (λ (l : 0 < size a). omega (arith, size-reaches a (size a - 1) (omega arith), halved (size a) l))
+    (λ (l : 0 < size a). omega (arith, size-reaches a (size a - 1) (omega arith), pow-twice-pred (size a) l))
     (λ (l : size a ≤ 0). le-trans (pow-mono l) (omega arith))
 
 pub leading-size : (k a : ℕ) → a < 2 ^ k → leadingZeros k a + size a ≡ k

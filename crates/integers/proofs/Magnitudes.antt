@@ -1,4 +1,5 @@
--- The sign and the magnitude of an integer kind's pattern: what a program computes, and that they are those of its number. Assumes nothing.
+-- The sign and the magnitude of an integer kind's pattern: what a program computes, and that they are those of its number.
+-- Assumes nothing.
 use mathlib.Core.Path.{_≡_, refl, sym, ap, subst, _∙_}
 use mathlib.Core.Bool.{Bool, true, false, not, cond}
 use Prim.Native.Nat.{ℕ, _-_, _*_, _%_, _^_, _≤_, _<_}
@@ -8,7 +9,7 @@ use lib.Dec.{lit<}
 use lib.Pow.{pow-pos, shl-exact}
 use borrow.Author.Tests.{le-leb, lt-leb, leb-true, leb-false}
 use Rattle.grid.specs.Round.{signed}
-use Rattle.grid.proofs.Neighbours.{halved}
+use Rattle.grid.proofs.Neighbours.{pow-twice-pred}
 use Rattle.patterns.specs.Kind.{Kind, integer, bits, highInt}
 use Rattle.patterns.specs.Value.{num, negative, valueOf}
 use Rattle.kinds.specs.declared.KindRow.{KindRow}
@@ -47,7 +48,7 @@ zero-not-negative s n = magnitude-of-low s n 0 (pow-pos (n - 1))
 -- a number below zero is at most 2 ^ (n - 1) in size, and not 0; another is at most the highest
 pub negative-bounds : (s : Bool) (n b : ℕ) → 0 < n → b < 2 ^ n → magnitudeOf (integer s n) b .negative ≡ true → (0 < magnitudeOf (integer s n) b .magnitude) × (magnitudeOf (integer s n) b .magnitude ≤ 2 ^ (n - 1))
 unfolding magnitudeOf
-negative-bounds true n b some h e = rw e (let l = leb-true (2 ^ (n - 1)) b e in let d = halved n some in (omega arith, omega arith))
+negative-bounds true n b some h e = rw e (let l = leb-true (2 ^ (n - 1)) b e in let d = pow-twice-pred n some in (omega arith, omega arith))
 negative-bounds false n b some h e = let z : _≡_ {A = ℕ} 0 1 = cc in absurd (omega arith)
 
 pub positive-bound : (s : Bool) (n b : ℕ) → b < 2 ^ n → magnitudeOf (integer s n) b .negative ≡ false → magnitudeOf (integer s n) b .magnitude ≤ highInt s n
@@ -83,7 +84,7 @@ module _ (k : Kind) (i : IntegerKind k) (row : KindRow) (is : row ≡ rowOf k) w
 
     pub high-is : not (row .signed) ≡ false → half ≤ b → record { negative = true; magnitude = half - (b - half) } ≡ magnitudeOf k b
     high-is e l = sym (ap (λ (z : Kind). magnitudeOf z b) (i .is ∙ ap (λ (t : Bool). integer t (i .n)) (sym (signed-is k i row is) ∙ not-false (row .signed) e)) ∙ magnitude-of-high (i .n) b (omega arith)
-        ∙ ap {B = Integer} (λ (m : ℕ). record { negative = true; magnitude = m }) (omega (arith, halved (i .n) (i .some))))
+        ∙ ap {B = Integer} (λ (m : ℕ). record { negative = true; magnitude = m }) (omega (arith, pow-twice-pred (i .n) (i .some))))
 
     pub high-fits : b < 2 ^ bits k → b - half ≤ half
-    high-fits f = omega (arith, halved (i .n) (i .some), subst (λ (z : Kind). b < 2 ^ bits z) (i .is) f)
+    high-fits f = omega (arith, pow-twice-pred (i .n) (i .some), subst (λ (z : Kind). b < 2 ^ bits z) (i .is) f)

@@ -1,18 +1,18 @@
--- The bits of a finite float, `lib.Ieee.toBits`, are the pattern of its number and its sign, at a zero too. Once for both formats. Assumes nothing.
+-- The bits of a finite float, `lib.Ieee.toBits`, are the pattern of its number and its sign, at a zero too. Once for both formats.
+-- Assumes nothing.
 use mathlib.Core.Path.{_≡_, refl, sym, ap, ap₂, _∙_}
-use mathlib.Core.Bool.{Bool, true, false, not, cond, _&&_}
-use Prim.Native.Nat.{ℕ, zero, suc, _+_, _-_, _*_, _/_, _%_, _^_, _≤_, _<_, max}
-use native.Mathlib.Nat.{mul-assoc, mul-one, one-mul, mul-right-comm, mul-div-mul-right, mul-div-cancel, eq-of-mul-eq-mul-right, zero-mul, le-trans, le-of-eq, mul-le-mul-right}
+use mathlib.Core.Bool.{Bool, true, false, not, cond}
+use Prim.Native.Nat.{ℕ, zero, suc, _+_, _-_, _*_, _/_, _^_, _≤_, max}
+use native.Mathlib.Nat.{mul-assoc, mul-one, mul-right-comm, mul-div-mul-right, mul-div-cancel, zero-mul}
 use native.Mathlib.Omega.{arith}
-use lib.Dec.{T, eqb, ltb, leb, eqb→eq, leb→le}
-use lib.IntN.{ℤ, pos, negsuc}
-use lib.Pow.{pow-pos, pow-add, pow-lt}
-use lib.Ieee.{Float, nan, inf, fin, Format, binary32, binary64, prec, emax, low, hid, top, up, down, size, fits, isNan, toBits}
+use lib.Dec.{T}
+use lib.Ieee.{Float, nan, inf, fin, Format, binary32, binary64, prec, low, hid, top, up, down, size, isNan, toBits}
 use lib.Ieee.Digits.{size-le}
-use lib.Ieee.Fits.{up-pos, down-pos, and-l, and-r}
 use lib.Ieee.Exact.{HasValue}
+use lib.Ieee.Fits.{down-pos}
+use lib.IntN.{ℤ}
+use lib.Pow.{pow-pos, pow-add}
 use Rattle.grid.specs.Round.{signed}
-use Rattle.grid.proofs.Neighbours.{cut}
 use Rattle.grid.proofs.Kept.{size-shift}
 use Rattle.patterns.specs.Kind.{binary}
 use Rattle.patterns.specs.Pattern.{withSign, magBits, patternOf}
@@ -89,41 +89,6 @@ toBits-of-whole f x s n h =
   where
     together : (n l d k : ℕ) → l + d ≡ k → n * 2 ^ l * 2 ^ d ≡ n * 2 ^ k
     together n l d k e = mul-assoc n (2 ^ l) (2 ^ d) ∙ ap (λ (z : ℕ). n * z) (sym (pow-add 2 l d) ∙ ap (λ (z : ℕ). 2 ^ z) e)
-
--- ---- any finite float of the format
-power-le : (i j : ℕ) → 2 ^ i ≤ 2 ^ j → i ≤ j
-power-le i j h = cut j i (λ (l : j < i). absurd (omega (arith, pow-lt l))) (λ l. l)
-
-divides : (e : ℤ) (l : ℕ) → down e ≤ 2 ^ l → (c : ℕ) × (2 ^ l ≡ c * down e)
-divides (pos k) l h = (2 ^ l, sym (mul-one (2 ^ l)))
-divides (negsuc k) l h = (2 ^ (l - suc k), ap (λ (z : ℕ). 2 ^ z) (back (power-le (suc k) l h)) ∙ pow-add 2 (l - suc k) (suc k))
-  where
-    back : suc k ≤ l → l ≡ l - suc k + suc k
-    back h = omega arith
-
-down-small : (f : Format) (t : Bool) (m : ℕ) (e : ℤ) → T (fits f (fin t m e)) → down e ≤ 2 ^ low f
-unfolding fits
-down-small f t zero e h = le-trans (le-trans (le-of-eq (sym (one-mul (down e)))) (mul-le-mul-right (down e) (up-pos e))) (le-trans (le-of-eq (eqb→eq (up e * down e) 1 h)) (pow-pos (low f)))
-down-small f t (suc m) e h =
-    let A = eqb (suc m % 2) 1 && ltb (suc m) (2 ^ prec f) in
-    let C = leb (down e) (2 ^ low f) in
-    leb→le (down e) (2 ^ low f) (and-r A C (and-l (A && C) (ltb (suc m * up e) (2 ^ suc (emax f) * down e)) h))
-
-same-number : (v c n l s k d : ℕ) → 0 < d → l + s ≡ k → 2 ^ l ≡ c * d → v * 2 ^ k ≡ n * d → v * c * 2 ^ s ≡ n
-same-number v c n l s k d D e h i = eq-of-mul-eq-mul-right d D (v * c * 2 ^ s) n
-    (mul-right-comm (v * c) (2 ^ s) d
-    ∙ ap (λ (z : ℕ). z * 2 ^ s) (mul-assoc v c d ∙ ap (λ (z : ℕ). v * z) (sym h))
-    ∙ mul-assoc v (2 ^ l) (2 ^ s)
-    ∙ ap (λ (z : ℕ). v * z) (sym (pow-add 2 l s) ∙ ap (λ (z : ℕ). 2 ^ z) e)
-    ∙ i)
-
-pub toBits-is-patternOf : (f : Format) (x : Float) (s : Bool) (n : ℕ) → T (fits f x) → HasValue x s n (2 ^ 1074) → toBits f x ≡ patternOf (kindFor f) s (signed s n)
-toBits-is-patternOf f nan s n F h = absurd h
-toBits-is-patternOf f (inf t) s n F h = absurd h
-toBits-is-patternOf f (fin t m e) s n F h =
-    let c = divides e (low f) (down-small f t m e F) in
-    toBits-of-units f (fin t m e) s (m * up e * c .0) (h .0, ap (λ (z : ℕ). m * up e * z) (c .1) ∙ sym (mul-assoc (m * up e) (c .0) (down e)))
-    ∙ ap (λ (z : ℕ). patternOf (kindFor f) s (signed s z)) (same-number (m * up e) (c .0) n (low f) (spacing f) 1074 (down e) (down-pos e) (low-spacing f) (c .1) (h .1))
 
 -- ---- a float with a value is no NaN
 pub valued-no-nan : (x : Float) (s : Bool) (n d : ℕ) → HasValue x s n d → T (not (isNan x))

@@ -1,4 +1,5 @@
--- A magnitude rounded to p significant bits, as the float that a program computes. Assumes nothing.
+-- A magnitude rounded to p significant bits, as the float that a program computes.
+-- Assumes nothing.
 use mathlib.Core.Path.{_≡_, sym, ap, ap₂, subst, _∙_}
 use mathlib.Core.Logic.{_⊎_, inl, inr}
 use mathlib.Core.Bool.{Bool, true, false, cond}

@@ -11,7 +11,7 @@ use lib.IntN.{ℤ, pos, natAbs}
 use lib.Pow.{pow-pos, pow-mono}
 use borrow.Author.Tests.{lt-ltb, le-ltb, eq-eqb, ne-eqb, leb-true, leb-false, eqb-true, eqb-false}
 use Rattle.grid.specs.Round.{signed}
-use Rattle.grid.proofs.Neighbours.{cut, halved}
+use Rattle.grid.proofs.Neighbours.{cut, pow-twice-pred}
 use Rattle.patterns.specs.Float.{bitsMag, infBits}
 use Rattle.patterns.specs.Kind.{binary}
 use Rattle.patterns.specs.Value.{nan, inf, num, floatValue, valueOf}
@@ -148,6 +148,6 @@ module _ (p w s : ℕ) (two : 2 ≤ p) (some : 0 < w) where
     pub zeros-match : (a ≡ key → ⊥) → bitAnd key (top - 1) ≤ infBits p w → eqb (bitOr (bitAnd a (top - 1)) (bitAnd key (top - 1))) 0 ≡ matches (valueOf (binary p w s) a) (valueOf (binary p w s) key)
     unfolding valueOf
     zeros-match other h =
-        let half = halved (w + p) (omega arith) in
+        let half = pow-twice-pred (w + p) (omega arith) in
         rw (and-mask a (w + p - 1), and-mask key (w + p - 1))
         (other-key (leb top a) (leb top key) (a % top) (key % top) (λ e f. other (parts-only top a key (omega arith) (omega arith) e f)) (rw (and-mask key (w + p - 1)) at h))

@@ -1,4 +1,5 @@
--- q units of 2 ^ (k + s) have the bits k * 2 ^ (p - 1) + q. And the bits are in the order of the magnitudes. Assumes nothing.
+-- q units of 2 ^ (k + s) have the bits k * 2 ^ (p - 1) + q. And the bits are in the order of the magnitudes.
+-- Assumes nothing.
 use mathlib.Core.Path.{_≡_, refl, sym, ap, ap₂, _∙_}
 use Prim.Native.Nat.{ℕ, zero, suc, _+_, _-_, _*_, _/_, _%_, _^_, _≤_, _<_}
 use native.Mathlib.Decide.{le-ind}
@@ -7,7 +8,7 @@ use native.Mathlib.Omega.{arith}
 use lib.Arith.{digits-div, digits-mod}
 use lib.Pow.{pow-pos, pow-add}
 use Rattle.patterns.specs.Float.{fieldMag, bitsMag}
-use Rattle.grid.proofs.Neighbours.{cut, halved}
+use Rattle.grid.proofs.Neighbours.{cut, pow-twice-pred}
 
 -- bits given as field and digits
 fields : (p s x t b : ℕ) → t < 2 ^ (p - 1) → b ≡ x * 2 ^ (p - 1) + t → bitsMag p s b ≡ fieldMag p s x t
@@ -27,7 +28,7 @@ encode p s k q P small full = cut q (2 ^ (p - 1))
     (λ (h : 2 ^ (p - 1) ≤ q). cut q (2 ^ (p - 1) + 2 ^ (p - 1))
     (λ (l : q < 2 ^ (p - 1) + 2 ^ (p - 1)). low-bits p s k q h l)
     (λ (l : 2 ^ (p - 1) + 2 ^ (p - 1) ≤ q).
-    let a = halved p P in
+    let a = pow-twice-pred p P in
     let e : q ≡ 2 * 2 ^ (p - 1) = omega arith in
     ap (bitsMag p s) (omega arith) ∙ low-bits p s (suc k) (2 ^ (p - 1)) (le-refl (2 ^ (p - 1))) (omega (arith, pow-pos (p - 1)))
     ∙ twice (2 ^ (p - 1)) (k + s) (suc k + s) (omega arith) ∙ ap (λ (z : ℕ). z * 2 ^ (k + s)) (sym e)))
@@ -45,7 +46,7 @@ zero-bits p s two = ap (bitsMag p s) (sym (none (2 ^ (p - 1)))) ∙ encode p s 0
     none h = omega arith
 
 pub power-bits : (p s : ℕ) → 2 ≤ p → (k : ℕ) → bitsMag p s (suc k * 2 ^ (p - 1)) ≡ 2 ^ (p - 1 + (k + s))
-power-bits p s two k = ap (bitsMag p s) (turn k (2 ^ (p - 1))) ∙ encode p s k (2 ^ (p - 1)) (omega arith) (omega (arith, halved p (omega arith))) (λ _. omega arith) ∙ sym (pow-add 2 (p - 1) (k + s))
+power-bits p s two k = ap (bitsMag p s) (turn k (2 ^ (p - 1))) ∙ encode p s k (2 ^ (p - 1)) (omega arith) (omega (arith, pow-twice-pred p (omega arith))) (λ _. omega arith) ∙ sym (pow-add 2 (p - 1) (k + s))
   where
     turn : (k h : ℕ) → suc k * h ≡ k * h + h
     turn k h = omega arith

@@ -1,4 +1,5 @@
--- The number of a float kind's pattern, for any precision, exponent width and spacing. Assumes nothing.
+-- The number of a float kind's pattern, for any precision, exponent width and spacing.
+-- Assumes nothing.
 use mathlib.Core.Path.{_≡_, refl, sym, ap, ap₂, _∙_, subst}
 use mathlib.Core.Bool.{Bool, true, false, cond}
 use Prim.Native.Nat.{ℕ, zero, suc, _+_, _-_, _*_, _/_, _%_, _^_, _≤_, _<_}
@@ -15,7 +16,7 @@ use Rattle.grid.specs.Grid.{float, OnMag, OnGrid}
 use Rattle.grid.specs.declared.RoundingMode.the-variants.{TowardsZero}
 use Rattle.grid.specs.Round.{pickMag, unitExp, signed}
 use Rattle.patterns.specs.Float.{fieldMag, bitsMag, infBits}
-use Rattle.grid.proofs.Neighbours.{cut, halved, kept-lt, kept-full}
+use Rattle.grid.proofs.Neighbours.{cut, pow-twice-pred, kept-lt, kept-full}
 use Rattle.grid.proofs.Picked.{picked-pos}
 use Rattle.patterns.proofs.Encode.{encode, bits-mono, bits-mono-le}
 use Rattle.patterns.specs.Kind.{binary, InRange, highest, lowest}
@@ -55,8 +56,8 @@ module _ (p w s : ℕ) (two : 2 ≤ p) (some : 0 < w) where
     sign-lt = go neg
       where
         go : (neg : Bool) → withSign (w + p) neg x < 2 ^ (w + p)
-        go true = omega (arith, halved (w + p) (omega arith))
-        go false = omega (arith, halved (w + p) (omega arith))
+        go true = omega (arith, pow-twice-pred (w + p) (omega arith))
+        go false = omega (arith, pow-twice-pred (w + p) (omega arith))
 
     pub read : valueOf (binary p w s) (withSign (w + p) neg x) ≡ floatValue p w s neg x
     unfolding valueOf
@@ -122,8 +123,8 @@ module _ (p w s : ℕ) (two : 2 ≤ p) (some : 0 < w) where
   on-bits x = go (x / 2 ^ (p - 1)) (x % 2 ^ (p - 1)) (mod-lt x (pow-pos (p - 1)))
     where
       go : (f t : ℕ) → t < 2 ^ (p - 1) → OnMag (float p s) (fieldMag p s f t)
-      go zero t h = record { m = t; e = s; is = (omega (arith, halved p (omega arith)), omega arith, refl) }
-      go (suc f) t h = record { m = 2 ^ (p - 1) + t; e = f + s; is = (omega (arith, halved p (omega arith)), omega arith, refl) }
+      go zero t h = record { m = t; e = s; is = (omega (arith, pow-twice-pred p (omega arith)), omega arith, refl) }
+      go (suc f) t h = record { m = 2 ^ (p - 1) + t; e = f + s; is = (omega (arith, pow-twice-pred p (omega arith)), omega arith, refl) }
 
   pub bits-again : (x : ℕ) → magBits p s (bitsMag p s x) ≡ x
   bits-again x =
@@ -134,7 +135,7 @@ module _ (p w s : ℕ) (two : 2 ≤ p) (some : 0 < w) where
   pub signed-again : (b : ℕ) → b < 2 ^ (w + p) → withSign (w + p) (negative (binary p w s) b) (b % 2 ^ (w + p - 1)) ≡ b
   signed-again b h = cut b (2 ^ (w + p - 1))
       (λ (l : b < 2 ^ (w + p - 1)). ap₂ (withSign (w + p)) (lt-leb (2 ^ (w + p - 1)) b l) (mod-eq-of-lt l))
-      (λ (l : 2 ^ (w + p - 1) ≤ b). ap₂ (withSign (w + p)) (le-leb (2 ^ (w + p - 1)) b l) (mod-eq-sub-mod l ∙ mod-eq-of-lt (omega (arith, halved (w + p) (omega arith)))) ∙ omega arith)
+      (λ (l : 2 ^ (w + p - 1) ≤ b). ap₂ (withSign (w + p)) (le-leb (2 ^ (w + p - 1)) b l) (mod-eq-sub-mod l ∙ mod-eq-of-lt (omega (arith, pow-twice-pred (w + p) (omega arith)))) ∙ omega arith)
 
   pub float-again : (b : ℕ) (y : ℤ) → b < 2 ^ (w + p) → valueOf (binary p w s) b ≡ num y → withSign (w + p) (negative (binary p w s) b) (magBits p s (natAbs y)) ≡ b
   unfolding valueOf

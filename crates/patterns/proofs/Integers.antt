@@ -1,4 +1,5 @@
--- The number of an integer kind's pattern: for any count of bits, and any unit u. Assumes nothing.
+-- The number of an integer kind's pattern: for any count of bits, and any unit u.
+-- Assumes nothing.
 use mathlib.Core.Path.{_≡_, refl, sym, ap, _∙_}
 use mathlib.Core.Bool.{Bool, true, false, _&&_, cond}
 use Prim.Native.Nat.{ℕ, zero, suc, _+_, _-_, _*_, _/_, _%_, _^_, _≤_, _<_}
@@ -12,7 +13,7 @@ use lib.Signed.{_≤ℤ_, shrZ}
 use borrow.Author.Tests.{le-leb, lt-leb, leb-true, leb-false}
 use Rattle.grid.specs.Round.{signed}
 use Rattle.grid.proofs.Int.{up, dn, ints, →eq, up-neg, dn-neg, sub-parts}
-use Rattle.grid.proofs.Neighbours.{halved}
+use Rattle.grid.proofs.Neighbours.{pow-twice-pred}
 use Rattle.patterns.specs.Kind.{integer, highInt}
 use Rattle.patterns.specs.Value.{negative}
 use Rattle.patterns.specs.Pattern.{lowBits}
@@ -65,7 +66,7 @@ assemble y v t M a d p q e =
 
 module _ (s : Bool) (n u : ℕ) (some : 0 < n) (unit : 0 < u) where
   half : 2 ^ n ≡ 2 * 2 ^ (n - 1)
-  half = halved n some
+  half = pow-twice-pred n some
 
   pub low-bits-lt : (z : ℤ) → lowBits n z < 2 ^ n
   low-bits-lt (pos m) = mod-lt m (pow-pos n)

@@ -13,7 +13,7 @@ use lib.Pow.{pow-pos, pow-add, pow-mono}
 use Rattle.patterns.proofs.PickBits.{float-law}
 use Rattle.grid.specs.declared.RoundingMode.{RoundingMode}
 use Rattle.patterns.specs.Float.{bitsMag, fieldMag}
-use Rattle.grid.proofs.Neighbours.{cut, halved}
+use Rattle.grid.proofs.Neighbours.{cut, pow-twice-pred}
 use Rattle.grid.specs.Grid.{float}
 use Rattle.rounding.proofs.Carried.{joined}
 use Rattle.grid.proofs.Kept.{pick-zero}
@@ -85,7 +85,7 @@ module _ (r : RoundingMode) (drop base x y : ℕ) (some : 0 < drop) (few : drop 
 
   front-even : front % 2 ≡ 0
   unfolding front
-  front-even = ap (λ (z : ℕ). (y - base) * z % 2) (halved (52 - drop) (omega arith)) ∙ doubled (y - base) (2 ^ (52 - drop - 1))
+  front-even = ap (λ (z : ℕ). (y - base) * z % 2) (pow-twice-pred (52 - drop) (omega arith)) ∙ doubled (y - base) (2 ^ (52 - drop - 1))
     where
       doubled : (a b : ℕ) → a * (2 * b) % 2 ≡ 0
       doubled a b = omega arith

@@ -17,7 +17,7 @@ use Rattle.rounding.proofs.Whole.{whole-already}
 use Rattle.grid.specs.declared.RoundingMode.{RoundingMode}
 use Rattle.patterns.specs.Kind.{binary}
 use Rattle.patterns.specs.Float.{bitsMag, infBits}
-use Rattle.grid.proofs.Neighbours.{cut, halved}
+use Rattle.grid.proofs.Neighbours.{cut, pow-twice-pred}
 use Rattle.patterns.specs.Pattern.{magBits, patternOf, withSign}
 use Rattle.patterns.specs.Value.{num, inf, nan, valueOf}
 use Rattle.grid.specs.Round.{pick, pickMag, ruleFor, signed}
@@ -85,7 +85,7 @@ module _ (p w s one : ℕ) (L : Layout p w s one) (mode : RoundingMode) (b R : �
 
   with-sign : (x : ℕ) → b - mag + x ≡ withSign (w + p) sign x
   unfolding sign mag
-  with-sign x = below-sign (2 ^ (w + p - 1)) b (omega (arith, halved (w + p) (omega (arith, L .some)))) (pow-pos (w + p - 1)) sign refl x
+  with-sign x = below-sign (2 ^ (w + p - 1)) b (omega (arith, pow-twice-pred (w + p) (omega (arith, L .some)))) (pow-pos (w + p - 1)) sign refl x
 
   pub rounded-fits : R < 2 ^ (w + p - 1)
   rounded-fits = rounded-lt p w s one L (ruleFor (leb (2 ^ (w + p - 1)) b) mode) (b % 2 ^ (w + p - 1)) R (mod-lt b (pow-pos (w + p - 1))) is
@@ -127,7 +127,7 @@ module _ (p w s one : ℕ) (L : Layout p w s one) (mode : RoundingMode) (b R : �
   pub masked-sum-fits : b - bitAnd b (2 ^ (w + p - 1) - 1) + R < 2 ^ (w + p)
   masked-sum-fits =
       let n = 2 ^ (w + p - 1) in
-      let e : 2 ^ (w + p) ≡ 2 * n = halved (w + p) (omega (arith, L .some)) in
+      let e : 2 ^ (w + p) ≡ 2 * n = pow-twice-pred (w + p) (omega (arith, L .some)) in
       let q : b / n ≤ 1 = less (div-lt-iff-lt-mul (pow-pos (w + p - 1)) .1 (subst (λ (z : ℕ). b < z) e fits)) in
       omega (arith, and-mask b (w + p - 1), div-add-mod' b n, mul-le-mul-right n q, masked-fits, e)
     where

@@ -14,7 +14,7 @@ use Rattle.grid.proofs.Kept.{pick-shift, pick-exact}
 use Rattle.patterns.proofs.Encode.{encode, bits-mono, zero-bits, normal-bits, power-bits}
 use Rattle.grid.specs.declared.RoundingMode.{RoundingMode}
 use Rattle.patterns.specs.Float.{bitsMag}
-use Rattle.grid.proofs.Neighbours.{cut, halved}
+use Rattle.grid.proofs.Neighbours.{cut, pow-twice-pred}
 use Rattle.grid.specs.Round.{pickMag, step}
 use Rattle.grid.proofs.Step.{step-ge, step-le, step-alike}
 use Rattle.grid.specs.Grid.{whole}
@@ -52,7 +52,7 @@ module _ (r : RoundingMode) (K p s one x y j : ℕ) (two : 2 ≤ p) (odd : one %
   front-even : front % 2 ≡ 0
   unfolding front
   front-even = cut j (p - 1)
-      (λ (l : j < p - 1). ap (λ (z : ℕ). y * z % 2) (halved (p - 1 - j) (omega arith)) ∙ doubled y (2 ^ (p - 1 - j - 1)))
+      (λ (l : j < p - 1). ap (λ (z : ℕ). y * z % 2) (pow-twice-pred (p - 1 - j) (omega arith)) ∙ doubled y (2 ^ (p - 1 - j - 1)))
       (λ (l : p - 1 ≤ j). ap (λ (z : ℕ). y * 2 ^ z % 2) (none (p - 1) j l) ∙ omega arith)
     where
       doubled : (a b : ℕ) → a * (2 * b) % 2 ≡ 0
@@ -87,7 +87,7 @@ module _ (r : RoundingMode) (K p s one x y j : ℕ) (two : 2 ≤ p) (odd : one %
           back k e l = omega arith
 
       below : 2 ^ (p - 1) + x % 2 ^ (p - 1) < 2 ^ (p - j) * 2 ^ j
-      below = subst (λ (z : ℕ). 2 ^ (p - 1) + x % 2 ^ (p - 1) < z) whole-split (omega (arith, mod-lt x (pow-pos (p - 1)), halved p (omega arith)))
+      below = subst (λ (z : ℕ). 2 ^ (p - 1) + x % 2 ^ (p - 1) < z) whole-split (omega (arith, mod-lt x (pow-pos (p - 1)), pow-twice-pred p (omega arith)))
 
   sum-is : (kept + front) * 2 ^ j ≡ y * 2 ^ (p - 1) + kept * 2 ^ j
   sum-is = regroup kept front (2 ^ j) ∙ ap (λ (z : ℕ). z + kept * 2 ^ j) front-units
@@ -126,7 +126,7 @@ module _ (r : RoundingMode) (K p s one x : ℕ) (two : 2 ≤ p) (some : 2 ≤ on
       back a h = omega arith
 
   two-halves : 2 ^ K ≡ 2 * 2 ^ (K - 1)
-  two-halves = halved K (omega arith)
+  two-halves = pow-twice-pred K (omega arith)
 
   -- the quarter is on the same side of 0 and of 1/2 as the number
   quarter-alike : step r 0 (quartersOf x ((one - 1) * 2 ^ (p - 1))) 4 ≡ step r 0 (bitsMag p s x) (2 ^ K)
