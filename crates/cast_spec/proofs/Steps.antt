@@ -15,8 +15,6 @@ use Rattle.cast_spec.specs.Element.{Entry, Settings, matches, inRange, r
 use Rattle.patterns.specs.Pattern.{asF64}
 use Rattle.kinds.specs.declared.Outcome.{Outcome}
 use Rattle.kinds.specs.declared.Outcome.the-variants.{Stored}
-use Rattle.patterns.proofs.Integers as integers
-use Rattle.patterns.proofs.Floats as floats
 
 -- ---- the map
 no-match : (k : Kind) (x : ℤ) (es : List Entry) (o : Outcome) → ((e : Entry) → List·Memᴰ e es → valueOf k (e .key) ≡ num x → ⊥) → mapped k (num x) es o ≡ o

@@ -4,7 +4,7 @@ use mathlib.Core.Path.{_≡_}
 use mathlib.Core.List.{List, _++_}
 use Prim.Native.Nat.{ℕ, _+_, _-_, _*_, _/_, _^_, _≤_, _<_}
 use lib.ListN.{length, take, drop}
-use Rattle.bytes_le.specs.Bytes.{fromLe, patternAt, put, Place}
+use Rattle.bytes_le.specs.Bytes.{fromLe, patternAt, put}
 use Rattle.patterns.specs.Kind.{bits}
 use Rattle.patterns.specs.Value.{valueOf}
 use Rattle.kinds.specs.Codes.{kindOf, roundingOf, rangeOf}

@@ -1,7 +1,7 @@
 -- What the element conversions ask and return: the steps of `outcomeOf` behind the map.
 -- Assumes nothing.
 use mathlib.Core.Path.{_≡_}
-use mathlib.Core.Bool.{Bool, true, false, cond}
+use mathlib.Core.Bool.{Bool, cond}
 use mathlib.Core.List.{[]}
 use Prim.Native.Nat.{ℕ, _-_, _*_, _%_, _^_, _≤_, _<_}
 use lib.Dec.{leb}
@@ -15,7 +15,7 @@ use Rattle.kinds.specs.declared.OutOfRangeMode.{OutOfRangeMode}
 use Rattle.kinds.specs.declared.OutOfRangeMode.the-variants.{None, Clamp, Wrap}
 use Rattle.kinds.specs.declared.Outcome.{Outcome}
 use Rattle.kinds.specs.declared.Outcome.the-variants.{Stored, OutOfRange}
-use Rattle.cast_spec.specs.Element.{Settings, ranged, converted}
+use Rattle.cast_spec.specs.Element.{ranged, converted}
 use Rattle.element.specs.declared.Fit.{Fit}
 use Rattle.element.specs.declared.Fit.the-variants.{Pattern, Past}
 

@@ -1,11 +1,8 @@
 -- `bytes_le::get1` reads one byte.
 -- Assumes nothing.
-use mathlib.Core.Path.{_≡_, sym, ap, _∙_}
-use Prim.Native.Nat.{ℕ, _+_, _*_}
-use native.Mathlib.Omega.{arith}
+use mathlib.Core.Path.{_∙_}
 use denote.Ref.{now}
-use Rattle.bytes_le.specs.Bytes.{fromLe}
-use Rattle.bytes_le.proofs.Halves.{fromLe-halves, one, set-one, put-halves}
+use Rattle.bytes_le.proofs.Halves.{one}
 use borrow.Author.Needs.{needs}
 use Rattle.bytes_le.proofs.get1.Statement.{statement}
 use Rattle.bytes_le.proofs.get1.Tie as tie

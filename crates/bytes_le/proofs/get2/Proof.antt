@@ -1,12 +1,12 @@
 -- `bytes_le::get2` reads two bytes, by its two.
 -- Assumes nothing.
-use mathlib.Core.Path.{_≡_, sym, ap, _∙_}
+use mathlib.Core.Path.{ap, _∙_}
 use Prim.Native.Nat.{ℕ, _+_, _*_}
 use native.Mathlib.Omega.{arith}
 use denote.Ref.{now}
 use lib.ListN.{take}
 use Rattle.bytes_le.specs.Bytes.{fromLe}
-use Rattle.bytes_le.proofs.Halves.{fromLe-halves, one, set-one, put-halves}
+use Rattle.bytes_le.proofs.Halves.{fromLe-halves}
 use borrow.Author.Needs.{needs}
 use Rattle.bytes_le.proofs.get2.Statement.{statement}
 use Rattle.bytes_le.proofs.get2.Tie as tie

@@ -1,11 +1,8 @@
 -- `bytes_le::put1` puts one byte.
 -- Assumes nothing.
-use mathlib.Core.Path.{_≡_, sym, ap, _∙_}
-use Prim.Native.Nat.{ℕ, _+_, _*_, _%_}
-use native.Mathlib.Omega.{arith}
+use Prim.Native.Nat.{_%_}
 use denote.Ref.{now}
-use Rattle.bytes_le.specs.Bytes.{fromLe}
-use Rattle.bytes_le.proofs.Halves.{fromLe-halves, one, set-one, put-halves}
+use Rattle.bytes_le.proofs.Halves.{set-one}
 use borrow.Author.Needs.{needs}
 use Rattle.bytes_le.proofs.put1.Statement.{statement}
 use Rattle.bytes_le.proofs.put1.Tie as tie

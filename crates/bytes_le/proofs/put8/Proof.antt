@@ -1,11 +1,7 @@
 -- `bytes_le::put8` puts eight bytes, by its two halves.
 -- Assumes nothing.
-use mathlib.Core.Path.{_≡_, sym, ap, _∙_}
-use Prim.Native.Nat.{ℕ, _+_, _*_}
-use native.Mathlib.Omega.{arith}
 use denote.Ref.{now}
-use Rattle.bytes_le.specs.Bytes.{fromLe}
-use Rattle.bytes_le.proofs.Halves.{fromLe-halves, one, set-one, put-halves}
+use Rattle.bytes_le.proofs.Halves.{put-halves}
 use borrow.Author.Needs.{needs}
 use Rattle.bytes_le.proofs.put8.Statement.{statement}
 use Rattle.bytes_le.proofs.put8.Tie as tie

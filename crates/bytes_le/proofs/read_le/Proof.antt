@@ -6,12 +6,6 @@ use Rattle.bytes_le.proofs.Parts.{last-width, part-length, read-part}
 use borrow.Author.Needs.{needs}
 use Rattle.bytes_le.proofs.read_le.Statement.{statement}
 use Rattle.bytes_le.proofs.read_le.Tie as tie
-use Rattle.bytes_le.proofs.read_le.Reads as reads
-use Rattle.bytes_le.proofs.read_le.Lts as lts
-use Rattle.bytes_le.proofs.get1.Reads as get1-reads
-use Rattle.bytes_le.proofs.get2.Reads as get2-reads
-use Rattle.bytes_le.proofs.get4.Reads as get4-reads
-use Rattle.bytes_le.proofs.get8.Reads as get8-reads
 
 -- the last arm's width
 eight : (c : tie.At-match-rest) → c .before .before .args .width ≡ 8

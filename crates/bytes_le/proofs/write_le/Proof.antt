@@ -6,12 +6,6 @@ use Rattle.bytes_le.proofs.Parts.{last-width, part-length, written-part
 use borrow.Author.Needs.{needs}
 use Rattle.bytes_le.proofs.write_le.Statement.{statement}
 use Rattle.bytes_le.proofs.write_le.Tie as tie
-use Rattle.bytes_le.proofs.write_le.Reads as reads
-use Rattle.bytes_le.proofs.write_le.Lts as lts
-use Rattle.bytes_le.proofs.put1.Reads as put1-reads
-use Rattle.bytes_le.proofs.put2.Reads as put2-reads
-use Rattle.bytes_le.proofs.put4.Reads as put4-reads
-use Rattle.bytes_le.proofs.put8.Reads as put8-reads
 
 -- the last arm's width
 eight : (c : tie.At-match-rest) → c .before .before .args .width ≡ 8

@@ -1,8 +1,8 @@
 -- `chunk::convert` meets its contract: each way out is one of the laws of the checks, and the run is the definition's over all positions.
 -- Assumes nothing.
 use mathlib.Core.Path.{_≡_, sym, ap, ap₂, subst, _∙_}
-use mathlib.Core.Bool.{Bool, true, false, _&&_}
-use Prim.Native.Nat.{ℕ, _/_, _%_, _<_}
+use mathlib.Core.Bool.{true, _&&_}
+use Prim.Native.Nat.{_/_, _%_, _<_}
 use lib.Dec.{eqb}
 use lib.ListN.{length}
 use denote.Ref.{now}

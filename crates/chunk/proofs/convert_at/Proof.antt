@@ -1,6 +1,6 @@
 -- `chunk::convert_at` meets its contract: the element is read, converted, and written where it is stored.
 -- Assumes nothing.
-use mathlib.Core.Path.{_≡_, sym, _∙_}
+use mathlib.Core.Path.{sym, _∙_}
 use denote.Ref.{now}
 use Rattle.chunk.specs.Run.{settingsFor}
 use Rattle.chunk.proofs.Elements.{source-place, target-place, pattern-fits, converted-outcome, refuses, not-stored}

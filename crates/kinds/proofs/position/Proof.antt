@@ -5,8 +5,6 @@ use Rattle.kinds.specs.Answer.{positionOf}
 use borrow.Author.Needs.{needs}
 use Rattle.kinds.proofs.position.Statement.{statement}
 use Rattle.kinds.proofs.position.Tie as tie
-use Rattle.kinds.proofs.position.Reads as reads
-use Rattle.kinds.proofs.position.Lts as lts
 
 -- src/lib.rt:269:28
 enum-known-a : tie.Need-enum-known-a

@@ -7,8 +7,6 @@ use Rattle.kinds.specs.declared.OutOfRangeMode.the-variants.{Wrap}
 use borrow.Author.Needs.{needs}
 use Rattle.kinds.proofs.range_of.Statement.{statement}
 use Rattle.kinds.proofs.range_of.Tie as tie
-use Rattle.kinds.proofs.range_of.Reads as reads
-use Rattle.kinds.proofs.range_of.Lts as lts
 
 -- a code that is neither 0 nor 1
 rest : (n : ℕ) → (n ≡ 0 → ⊥) → (n ≡ 1 → ⊥) → Wrap ≡ rangeOf n

@@ -7,8 +7,6 @@ use Rattle.kinds.specs.Codes.{roundingOf}
 use borrow.Author.Needs.{needs}
 use Rattle.kinds.proofs.rounding_of.Statement.{statement}
 use Rattle.kinds.proofs.rounding_of.Tie as tie
-use Rattle.kinds.proofs.rounding_of.Reads as reads
-use Rattle.kinds.proofs.rounding_of.Lts as lts
 
 -- a code that is none of 0 to 3
 rest : (n : ℕ) → (n ≡ 0 → ⊥) → (n ≡ 1 → ⊥) → (n ≡ 2 → ⊥) → (n ≡ 3 → ⊥) → NearestAway ≡ roundingOf n

@@ -2,7 +2,7 @@
 -- Assumes nothing.
 use mathlib.Core.Path.{refl}
 use native.Mathlib.Omega.{arith}
-use lib.Dec.{lit<, lit≤}
+use lib.Dec.{lit≤}
 use lib.Bits.{mask-lt}
 use Rattle.rounding.proofs.Patterns.{f32-layout, mask-le, masked-fits, masked-sum-fits, masked-pattern}
 use Rattle.rounding.proofs.round_with_mode_f32.Statement.{statement}

@@ -2,9 +2,9 @@
 -- Assumes nothing.
 use mathlib.Core.Path.{refl}
 use native.Mathlib.Omega.{arith}
-use lib.Dec.{lit<, lit≤}
+use lib.Dec.{lit≤}
 use lib.Bits.{mask-lt}
-use Rattle.rounding.proofs.Patterns.{f64-layout, mask-le, masked-fits, masked-sum-fits, masked-pattern}
+use Rattle.rounding.proofs.Patterns.{f64-layout, mask-le, masked-sum-fits, masked-pattern}
 use Rattle.rounding.proofs.round_with_mode_f64.Statement.{statement}
 use Rattle.rounding.proofs.round_with_mode_f64.Tie as tie
 
