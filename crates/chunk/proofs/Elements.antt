@@ -80,7 +80,7 @@ module _ (s : Settings) (keys targets : List ℕ) (ready : Ready s keys targets)
     no-map es (binary p w t) (inf neg) = refl
     no-map es (binary p w t) nan = refl
 
-    pub missing-outcome : (r : Lookup) (o : Outcome) → r ≡ lookedUp s keys targets b → r ≡ Missing → o ≡ unmapped (s .from) (s .to) (s .rounding) (s .range) b → o ≡ outcomeOf (settingsFor s keys targets) b
+    pub missing-outcome : (r : Lookup) (o : Outcome) → r ≡ lookedUp s keys targets b → r ≡ Missing → o ≡ unmapped (kindOf (s .from)) (kindOf (s .to)) (s .rounding) (s .range) b → o ≡ outcomeOf (settingsFor s keys targets) b
     missing-outcome r o e f g =
         g ∙ no-map (settingsFor s keys targets .entries) (kindOf (s .to)) (valueOf (kindOf (s .from)) b)
         ∙ sym (by-lookup r e ∙ ap (λ (l : Lookup). foundOr l (converted (settingsFor s keys targets) b (kindOf (s .to)) (valueOf (kindOf (s .from)) b))) f)

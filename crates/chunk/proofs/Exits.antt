@@ -32,10 +32,11 @@ width-pos code h = ⊎-elim (λ (e : width (kindOf code) ≡ 1). omega arith) (�
 
 -- ---- the settings that a program puts together
 pub settings-are : (from to rounding range keys : ℕ) (x y : KindRow) (r : RoundingMode) (g : OutOfRangeMode) → x ≡ rowOf (kindOf from) → y ≡ rowOf (kindOf to) → r ≡ roundingOf rounding → g ≡ rangeOf range
-    → record { from = from; to = to; rounding = r; range = g; sw = x .bytes; dw = y .bytes; entries = keys / x .bytes } ≡ settingsBy from to rounding range keys
+    → record { from = from; to = to; source = x; target = y; rounding = r; range = g; sw = x .bytes; dw = y .bytes; entries = keys / x .bytes } ≡ settingsBy from to rounding range keys
 settings-are from to rounding range keys x y r g ex ey er eg =
-    ap₂ {C = Settings} (λ (a b : ℕ). record { from = from; to = to; rounding = r; range = g; sw = a; dw = b; entries = keys / a }) (row-width (kindOf from) x ex) (row-width (kindOf to) y ey)
-    ∙ ap₂ {C = Settings} (λ (a : RoundingMode) (b : OutOfRangeMode). record { from = from; to = to; rounding = a; range = b; sw = width (kindOf from); dw = width (kindOf to); entries = keys / width (kindOf from) }) er eg
+    ap₂ {C = Settings} (λ (a b : ℕ). record { from = from; to = to; source = x; target = y; rounding = r; range = g; sw = a; dw = b; entries = keys / a }) (row-width (kindOf from) x ex) (row-width (kindOf to) y ey)
+    ∙ ap₂ {C = Settings} (λ (a b : KindRow). record { from = from; to = to; source = a; target = b; rounding = r; range = g; sw = width (kindOf from); dw = width (kindOf to); entries = keys / width (kindOf from) }) ex ey
+    ∙ ap₂ {C = Settings} (λ (a : RoundingMode) (b : OutOfRangeMode). record { from = from; to = to; source = rowOf (kindOf from); target = rowOf (kindOf to); rounding = a; range = b; sw = width (kindOf from); dw = width (kindOf to); entries = keys / width (kindOf from) }) er eg
 
 -- ---- a test of several parts
 and-left : (a b : Bool) → a && b ≡ true → a ≡ true
@@ -99,6 +100,8 @@ module _ (I : Inputs) (a : codesListed I ≡ true) (b : mapWhole I ≡ true) (c 
   ready = record {
     from = codes .0;
     to = codes .1;
+    source-row = refl;
+    target-row = refl;
     source = refl;
     target = refl;
     keys-whole = sym (whole-length (length (I .keys)) (sw I) keys-whole);

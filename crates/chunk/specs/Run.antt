@@ -8,6 +8,7 @@ use Rattle.bytes_le.specs.Bytes.{fromLe, patternAt, put}
 use Rattle.patterns.specs.Kind.{bits}
 use Rattle.patterns.specs.Value.{valueOf}
 use Rattle.kinds.specs.Codes.{kindOf, roundingOf, rangeOf}
+use Rattle.kinds.specs.Row.{rowOf}
 use Rattle.kinds.specs.declared.Outcome.{Outcome}
 use Rattle.kinds.specs.declared.Outcome.the-variants.{Stored, NanOrInf, OutOfRange, FloatOutOfRange}
 use Rattle.kinds.specs.declared.Answer.{Answer}
@@ -27,6 +28,8 @@ abbrev pub settingsBy : ℕ → ℕ → ℕ → ℕ → ℕ → Settings
 settingsBy from to rounding range keys = record {
   from = from;
   to = to;
+  source = rowOf (kindOf from);
+  target = rowOf (kindOf to);
   rounding = roundingOf rounding;
   range = rangeOf range;
   sw = width (kindOf from);
@@ -34,10 +37,12 @@ settingsBy from to rounding range keys = record {
   entries = keys / width (kindOf from);
 }
 
--- the codes are listed, the widths are those of the kinds, and the map is whole
+-- the codes are listed, the rows and the widths are those of the kinds, and the map is whole
 pub record Ready (s : Settings) (keys targets : List ℕ) : Type 0 where
   pub from : s .from < 10
   pub to : s .to < 10
+  pub source-row : s .source ≡ rowOf (kindOf (s .from))
+  pub target-row : s .target ≡ rowOf (kindOf (s .to))
   pub source : s .sw ≡ width (kindOf (s .from))
   pub target : s .dw ≡ width (kindOf (s .to))
   pub keys-whole : length keys ≡ s .entries * s .sw

@@ -9,14 +9,17 @@ ghost use Rattle.cast_spec.specs.Demand3.{Contract};
 ghost use Rattle.chunk.specs.Run.{settingsFor, settingsBy, lookedUp, ElementIn, PlaceIn, ConvertedAt, RunIn, Ran};
 use grid::RoundingMode;
 use kinds::Answer;
+use kinds::KindRow;
 use kinds::OutOfRangeMode;
 use kinds::Outcome;
 use mapping::Lookup;
 
-// What a call converts by: the codes of the two kinds, the two rules, the bytes of a source and of a destination element, and the map's entries.
+// What a call converts by: the codes of the two kinds and their rows, the two rules, the bytes of a source and of a destination element, and the map's entries.
 pub struct Settings {
     pub from: u8,
     pub to: u8,
+    pub source: KindRow,
+    pub target: KindRow,
     pub rounding: RoundingMode,
     pub range: OutOfRangeMode,
     pub sw: usize,
@@ -43,11 +46,21 @@ fn outcome(b: u64, keys: &[u8], targets: &[u8], s: Settings) -> Outcome
     requires { ⌜ ElementIn b s (now keys) (now targets) ⌝ }
     ensures { λ r. ⌜ r ≡ outcomeOf (settingsFor s (now (keys .entry)) (now (targets .entry))) b ⌝ }
 {
+    let source = s.source;
+    let target = s.target;
     let rounding = s.rounding;
     let range = s.range;
     match look_up(b, keys, targets, s) {
-        Lookup::Found(target) => Outcome::Stored(target),
-        Lookup::Missing => element::convert_element(b, s.from, s.to, rounding, range),
+        Lookup::Found(pattern) => Outcome::Stored(pattern),
+        Lookup::Missing => element::convert_element(
+            b,
+            s.from,
+            s.to,
+            source,
+            target,
+            rounding,
+            range,
+        ),
     }
 }
 
@@ -147,15 +160,18 @@ fn settings_of(from: u8, to: u8, rounding: u8, range: u8, keys: usize) -> Settin
     requires { ⌜ (from < 10) × (to < 10) ⌝ }
     ensures { λ r. ⌜ r ≡ settingsBy from to rounding range keys ⌝ }
 {
-    let sw = kinds::row_of(from).bytes;
+    let source = kinds::row_of(from);
+    let target = kinds::row_of(to);
     Settings {
         from: from,
         to: to,
+        source: source,
+        target: target,
         rounding: kinds::rounding_of(rounding),
         range: kinds::range_of(range),
-        sw: sw,
-        dw: kinds::row_of(to).bytes,
-        entries: keys / sw,
+        sw: source.bytes,
+        dw: target.bytes,
+        entries: keys / source.bytes,
     }
 }
 

@@ -27,7 +27,6 @@ use Rattle.patterns.specs.Pattern.{asF64}
 use Rattle.patterns.specs.Float.{bitsMag, infBits}
 use Rattle.grid.proofs.Neighbours.{cut}
 use Rattle.rounding.proofs.Patterns.{f32-layout, f64-layout}
-use Rattle.kinds.proofs.Listed.{integer-kind}
 use Rattle.kinds.specs.Codes.{kindOf}
 use Rattle.floats.proofs.Successor.{least}
 use Rattle.patterns.proofs.AnyKind.{multiple}
@@ -99,37 +98,33 @@ picked-part from b h mode x e w is =
     (whole-part w (pick (whole 1074) mode x) (ap (valueOf f64) is ∙ a .value ∙ r .0) (picked (whole 1074) tt mode x .on), ap (negative f64) is ∙ a .sign ∙ r .1)
 
 -- ---- the outcome
-module _ (from to b : ℕ) (h : FloatPattern b from) (listed : to < 8) (mode : RoundingMode) (range : OutOfRangeMode) (v : ℕ) (is : v ≡ asF64 (kindOf from) b) where
+module _ (from b : ℕ) (h : FloatPattern b from) (s : Bool) (n : ℕ) (mode : RoundingMode) (range : OutOfRangeMode) (v : ℕ) (is : v ≡ asF64 (kindOf from) b) where
   abbrev S : Settings
-  S = record { from = kindOf from; to = kindOf to; rule = mode; range = range; entries = [] }
+  S = record { from = kindOf from; to = integer s n; rule = mode; range = range; entries = [] }
 
   value-is : valueOf f64 v ≡ valueOf (kindOf from) b
   value-is = ap (valueOf f64) is ∙ as-f64 b from h .value
 
-  to-integer : (P : Kind → Type 0) → ((s : Bool) (n : ℕ) → P (integer s n)) → P (kindOf to)
-  to-integer P f = let i = integer-kind to listed in subst P (sym (i .is)) (f (i .s) (i .n))
-
-  pub not-finite : infBits 53 11 ≤ bitAnd v (2 ^ 63 - 1) → NanOrInf v ≡ unmapped from to mode range b
+  pub not-finite : infBits 53 11 ≤ bitAnd v (2 ^ 63 - 1) → NanOrInf v ≡ unmapped (kindOf from) (integer s n) mode range b
   not-finite l = go (valueOf (kindOf from) b) refl
     where
-      go : (w : Value) → valueOf (kindOf from) b ≡ w → NanOrInf v ≡ converted S b (kindOf to) w
+      go : (w : Value) → valueOf (kindOf from) b ≡ w → NanOrInf v ≡ converted S b (integer s n) w
       go (num x) e = absurd (omega (arith, finite-bits v x (value-is ∙ e), and-mask v 63))
-      go (inf neg) e = ap NanOrInf is ∙ to-integer (λ (k : Kind). NanOrInf (asF64 (kindOf from) b) ≡ converted S b k (inf neg)) (λ s n. refl)
-      go nan e = ap NanOrInf is ∙ to-integer (λ (k : Kind). NanOrInf (asF64 (kindOf from) b) ≡ converted S b k nan) (λ s n. refl)
+      go (inf neg) e = ap NanOrInf is
+      go nan e = ap NanOrInf is
 
   -- a finite element has a number
   pub has-number : bitAnd v (2 ^ 63 - 1) < infBits 53 11 → (x : ℤ) × (valueOf (kindOf from) b ≡ num x)
   has-number l = (_, sym value-is ∙ finite-number v (subst (λ (z : ℕ). z < infBits 53 11) (and-mask v 63) l))
 
-  pub held-whole : bitAnd v (2 ^ 63 - 1) < infBits 53 11 → (w : ℕ) → w ≡ asF64 (kindOf from) (roundedOf (kindOf from) mode b) → (whole : Whole) → whole ≡ wholeOf w → (r : Fit) → Held (whole .negative) (whole .magnitude) (whole .far) to range r
-      → fitted (kindOf to) v r ≡ unmapped from to mode range b
+  pub held-whole : bitAnd v (2 ^ 63 - 1) < infBits 53 11 → (w : ℕ) → w ≡ asF64 (kindOf from) (roundedOf (kindOf from) mode b) → (whole : Whole) → whole ≡ wholeOf w → (r : Fit) → Held (whole .negative) (whole .magnitude) (whole .far) (integer s n) range r
+      → fitted (integer s n) v r ≡ unmapped (kindOf from) (integer s n) mode range b
   held-whole l w ws W Ws r H =
-      let n = has-number l in
-      let x = n .0 in
-      let p = picked-part from b h mode x (n .1) w ws in
+      let f = has-number l in
+      let x = f .0 in
+      let p = picked-part from b h mode x (f .1) w ws in
       H .is (wholeMag w) v (ap (λ (z : Whole). z .magnitude) Ws) (ap (λ (z : Whole). z .far) Ws)
-      ∙ ap (λ (t : Bool). ranged (kindOf to) range v t (signed t (wholeMag w * 2 ^ 1074))) (ap (λ (z : Whole). z .negative) Ws)
-      ∙ ap₂ (ranged (kindOf to) range v) (p .1) (sym (p .0))
-      ∙ ap (λ (z : ℕ). ranged (kindOf to) range z (negative (kindOf from) b) (pick (whole 1074) mode x)) is
-      ∙ to-integer (λ (k : Kind). ranged k range (asF64 (kindOf from) b) (negative (kindOf from) b) (pick (whole 1074) mode x) ≡ converted S b k (num x)) (λ s n. refl)
-      ∙ ap (converted S b (kindOf to)) (sym (n .1))
+      ∙ ap (λ (t : Bool). ranged (integer s n) range v t (signed t (wholeMag w * 2 ^ 1074))) (ap (λ (z : Whole). z .negative) Ws)
+      ∙ ap₂ (ranged (integer s n) range v) (p .1) (sym (p .0))
+      ∙ ap (λ (z : ℕ). ranged (integer s n) range z (negative (kindOf from) b) (pick (whole 1074) mode x)) is
+      ∙ ap (converted S b (integer s n)) (sym (f .1))

@@ -13,7 +13,7 @@ use Rattle.patterns.specs.Value.{num, negative, valueOf}
 use Rattle.patterns.proofs.Floats.{abs-signed, sign-is, inf-lt, mag-lt}
 use Rattle.integers.specs.Magnitude.{IntegerPattern, magnitudeOf}
 use Rattle.element.proofs.Integers.{number-is, negative-is, small}
-use Rattle.patterns.specs.Kind.{InRange, Kind, binary, f32, f64}
+use Rattle.patterns.specs.Kind.{InRange, Kind, integer, binary, f32, f64}
 use Rattle.integers.specs.declared.Integer.{Integer}
 use Rattle.kinds.specs.declared.OutOfRangeMode.the-variants.{None}
 use Rattle.grid.specs.Grid.{OnGrid, float}
@@ -41,15 +41,15 @@ pattern-sign : (p w s : ℕ) → 2 ≤ p → 0 < w → (neg : Bool) (y : ℤ) �
 unfolding patternOf
 pattern-sign p w s two some neg y on h = sign-is p w s two some neg (magBits p s (natAbs y)) (lt-trans (mag-lt p w s two some (natAbs y) on (largest-bits p w s y h)) (inf-lt p w s two some))
 
-module _ (b from : ℕ) (h : IntegerPattern b from) (x : Integer) (is : x ≡ magnitudeOf (kindOf from) b) (mode : RoundingMode) where
+module _ (b : ℕ) (t : Bool) (n : ℕ) (h : IntegerPattern b n) (x : Integer) (is : x ≡ magnitudeOf (integer t n) b) (mode : RoundingMode) where
   abbrev K : Kind
-  K = kindOf from
+  K = integer t n
 
   abbrev X : ℤ
   X = signed (x .negative) (x .magnitude * 2 ^ 1074)
 
   size-le : natAbs X ≤ 2 ^ (64 + 1074)
-  size-le = subst (λ (z : ℕ). z ≤ 2 ^ (64 + 1074)) (sym (abs-signed (x .negative) (x .magnitude * 2 ^ 1074))) (scaled-le (x .magnitude) 1074 (small b from h x is))
+  size-le = subst (λ (z : ℕ). z ≤ 2 ^ (64 + 1074)) (sym (abs-signed (x .negative) (x .magnitude * 2 ^ 1074))) (scaled-le (x .magnitude) 1074 (small b t n h x is))
 
   -- "From an integer kind no float target of these two overruns."
   held : (p w s : ℕ) → 2 ≤ p → s ≤ 64 + 1074 → 2 ^ (64 + 1074) ≤ bitsMag p s (infBits p w - 1) → InRange (binary p w s) (pick (float p s) mode X)
@@ -57,14 +57,14 @@ module _ (b from : ℕ) (h : IntegerPattern b from) (x : Integer) (is : x ≡ ma
 
   -- so it is stored, whatever the range choice
   rounded-once : (p w s : ℕ) → 2 ≤ p → s ≤ 64 + 1074 → 2 ^ (64 + 1074) ≤ bitsMag p s (infBits p w - 1) → (to : ℕ) → kindOf to ≡ binary p w s → (range : OutOfRangeMode)
-      → Stored (patternOf (binary p w s) (x .negative) (pick (float p s) mode X)) ≡ unmapped from to mode range b
-  rounded-once p w s two fine room to t range =
-      ap (λ (n : Bool). Stored (patternOf (binary p w s) n (pick (float p s) mode X))) (negative-is b from h x is)
+      → Stored (patternOf (binary p w s) (x .negative) (pick (float p s) mode X)) ≡ unmapped K (kindOf to) mode range b
+  rounded-once p w s two fine room to e range =
+      ap (λ (n : Bool). Stored (patternOf (binary p w s) n (pick (float p s) mode X))) (negative-is b t n h x is)
       ∙ sym (in-range-stored (binary p w s) range (asF64 K b) (negative K b) (pick (float p s) mode X) (held p w s two fine room))
-      ∙ subst (λ (k : Kind). ranged (binary p w s) range (asF64 K b) (negative K b) (pick (float p s) mode X) ≡ converted (record { from = K; to = k; rule = mode; range = range; entries = [] }) b k (num X)) (sym t) refl
-      ∙ ap (converted (record { from = K; to = kindOf to; rule = mode; range = range; entries = [] }) b (kindOf to)) (sym (number-is b from h x is))
+      ∙ subst (λ (k : Kind). ranged (binary p w s) range (asF64 K b) (negative K b) (pick (float p s) mode X) ≡ converted (record { from = K; to = k; rule = mode; range = range; entries = [] }) b k (num X)) (sym e) refl
+      ∙ ap (converted (record { from = K; to = kindOf to; rule = mode; range = range; entries = [] }) b (kindOf to)) (sym (number-is b t n h x is))
 
-  pub int-to-f64 : (v to : ℕ) → to ≡ 9 → v ≡ patternOf f64 (x .negative) (pick (float 53 0) mode X) → (range : OutOfRangeMode) → Stored v ≡ unmapped from to mode range b
+  pub int-to-f64 : (v to : ℕ) → to ≡ 9 → v ≡ patternOf f64 (x .negative) (pick (float 53 0) mode X) → (range : OutOfRangeMode) → Stored v ≡ unmapped K (kindOf to) mode range b
   int-to-f64 v to t e range = ap Stored e ∙ rounded-once 53 11 0 (lit≤ tt) (omega arith) f64-room to (ap kindOf t) range
 
   -- ---- to f32, by way of an f64 that holds the pick
@@ -94,7 +94,7 @@ module _ (b from : ℕ) (h : IntegerPattern b from) (x : Integer) (is : x ≡ ma
     sign-y : negative f64 v ≡ x .negative
     sign-y = let f = f32-held y y-on y-held in ap (negative f64) holds-y ∙ pattern-sign 53 11 0 (lit≤ tt) (lit< tt) (x .negative) y (f .0) (f .1)
 
-    pub int-to-f32 : (to : ℕ) → to ≡ 8 → (range : OutOfRangeMode) → unmapped 9 8 mode None v ≡ unmapped from to mode range b
+    pub int-to-f32 : (to : ℕ) → to ≡ 8 → (range : OutOfRangeMode) → unmapped f64 f32 mode None v ≡ unmapped K (kindOf to) mode range b
     unfolding y
     int-to-f32 to t range =
         ap (converted (record { from = f64; to = f32; rule = mode; range = None; entries = [] }) v f32) value-y

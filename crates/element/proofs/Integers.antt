@@ -12,9 +12,9 @@ use lib.Pow.{pow-mono}
 use borrow.Author.Tests.{lt-leb}
 use Rattle.patterns.specs.Value.{num, negative, valueOf}
 use Rattle.integers.specs.Magnitude.{IntegerPattern, magnitudeOf}
-use Rattle.integers.proofs.Magnitudes.{coded-magnitude-value, negative-bounds, positive-bound}
+use Rattle.integers.proofs.Magnitudes.{magnitude-value, negative-bounds, positive-bound}
 use Rattle.element.specs.declared.Fit.{Fit}
-use Rattle.element.specs.Convert.{Held, fitted, unmapped}
+use Rattle.element.specs.Convert.{ElementPattern, Held, fitted, unmapped}
 use Rattle.integers.specs.declared.Integer.{Integer}
 use Rattle.patterns.specs.Kind.{Kind, bits, f64, integer}
 use Rattle.grid.specs.declared.RoundingMode.the-variants.{NearestEven}
@@ -25,35 +25,34 @@ use Rattle.patterns.proofs.Floats.{abs-signed}
 use Rattle.patterns.specs.Pattern.{asF64, asF64From, patternOf}
 use Rattle.cast_spec.specs.Element.{converted, ranged}
 use Rattle.patterns.proofs.Integers.{high-lt}
-use Rattle.kinds.proofs.Listed.{integer-kind}
+use Rattle.kinds.proofs.Listed.{integer-of, integer-row}
+use Rattle.kinds.specs.Row.{rowOf}
+use Rattle.kinds.specs.declared.KindRow.{KindRow}
 use Rattle.kinds.specs.Codes.{kindOf}
 use Rattle.grid.specs.Round.{pick, signed}
 use Rattle.grid.proofs.Picked.{pick-own}
 
-module _ (b from : ℕ) (h : IntegerPattern b from) where
+module _ (b : ℕ) (s : Bool) (n : ℕ) (h : IntegerPattern b n) where
   abbrev K : Kind
-  K = kindOf from
+  K = integer s n
 
   sign-is : magnitudeOf K b .negative ≡ negative K b
   unfolding magnitudeOf
-  sign-is = let i = integer-kind from (h .listed) in subst (λ (k : Kind). magnitudeOf k b .negative ≡ negative k b) (sym (i .is)) refl
+  sign-is = refl
 
   magnitude-lt : magnitudeOf K b .magnitude < 2 ^ 64
-  magnitude-lt =
-      let i = integer-kind from (h .listed) in
-      subst (λ (k : Kind). magnitudeOf k b .magnitude < 2 ^ 64) (sym (i .is))
-      (go (i .s) (i .n) (i .some) (i .most) (subst (λ (k : Kind). b < 2 ^ bits k) (i .is) (h .fits)) (magnitudeOf (integer (i .s) (i .n)) b .negative) refl)
+  magnitude-lt = go (magnitudeOf K b .negative) refl
     where
-      go : (s : Bool) (n : ℕ) → 0 < n → n ≤ 64 → b < 2 ^ n → (t : Bool) → magnitudeOf (integer s n) b .negative ≡ t → magnitudeOf (integer s n) b .magnitude < 2 ^ 64
-      go s n some most l true e = let p : 2 ^ (n - 1) ≤ 2 ^ 63 = pow-mono {j = 63} (omega arith) in omega (arith, negative-bounds s n b some l e)
-      go s n some most l false e = lt-of-le-of-lt (positive-bound s n b l e) (lt-of-lt-of-le (high-lt s n 1 some (lit< tt)) (pow-mono {j = 64} most))
+      go : (t : Bool) → magnitudeOf K b .negative ≡ t → magnitudeOf K b .magnitude < 2 ^ 64
+      go true e = let p : 2 ^ (n - 1) ≤ 2 ^ 63 = pow-mono {j = 63} (omega (arith, h .most)) in omega (arith, negative-bounds s n b (h .some) (h .fits) e)
+      go false e = lt-of-le-of-lt (positive-bound s n b (h .fits) e) (lt-of-lt-of-le (high-lt s n 1 (h .some) (lit< tt)) (pow-mono {j = 64} (h .most)))
 
   module _ (x : Integer) (is : x ≡ magnitudeOf K b) where
     abbrev X : ℤ
     X = signed (x .negative) (x .magnitude * 2 ^ 1074)
 
     pub number-is : valueOf K b ≡ num X
-    number-is = coded-magnitude-value from b (h .listed) ∙ ap (λ (z : Integer). num (signed (z .negative) (z .magnitude * 2 ^ 1074))) (sym is)
+    number-is = magnitude-value s n b ∙ ap (λ (z : Integer). num (signed (z .negative) (z .magnitude * 2 ^ 1074))) (sym is)
 
     pub negative-is : x .negative ≡ negative K b
     negative-is = ap (λ (z : Integer). z .negative) is ∙ sign-is
@@ -69,11 +68,15 @@ module _ (b from : ℕ) (h : IntegerPattern b from) where
     pub as-f64-is : (v : ℕ) → v ≡ patternOf f64 (x .negative) (pick (float 53 0) NearestEven X) → v ≡ asF64 K b
     as-f64-is v e = e ∙ ap (λ (t : Bool). patternOf f64 t (pick (float 53 0) NearestEven X)) negative-is ∙ ap (asF64From K b) (sym number-is)
 
-    pub held-int : (to : ℕ) → to < 8 → (range : OutOfRangeMode) (r : Fit) → Held (x .negative) (x .magnitude) false to range r → (mode : RoundingMode) → fitted (kindOf to) (asF64 K b) r ≡ unmapped from to mode range b
-    held-int to listed range r H mode =
-        let i = integer-kind to listed in
+    pub held-int : (t : Bool) (m : ℕ) (range : OutOfRangeMode) (r : Fit) → Held (x .negative) (x .magnitude) false (integer t m) range r → (mode : RoundingMode) → fitted (integer t m) (asF64 K b) r ≡ unmapped K (integer t m) mode range b
+    held-int t m range r H mode =
         H .is (x .magnitude) (asF64 K b) (sym (mod-eq-of-lt small)) (sym (lt-leb (2 ^ 64) (x .magnitude) small))
-        ∙ ap (λ (t : Bool). ranged (kindOf to) range (asF64 K b) t X) negative-is
-        ∙ ap (ranged (kindOf to) range (asF64 K b) (negative K b)) (sym (own-pick mode))
-        ∙ subst (λ (k : Kind). ranged k range (asF64 K b) (negative K b) (pick (whole 1074) mode X) ≡ converted (record { from = K; to = kindOf to; rule = mode; range = range; entries = [] }) b k (num X)) (sym (i .is)) refl
-        ∙ ap (converted (record { from = K; to = kindOf to; rule = mode; range = range; entries = [] }) b (kindOf to)) (sym number-is)
+        ∙ ap (λ (z : Bool). ranged (integer t m) range (asF64 K b) z X) negative-is
+        ∙ ap (ranged (integer t m) range (asF64 K b) (negative K b)) (sym (own-pick mode))
+        ∙ ap (converted (record { from = K; to = integer t m; rule = mode; range = range; entries = [] }) b (integer t m)) (sym number-is)
+
+-- ---- an element of a listed integer kind, by the row of its code
+pub source-pattern : (b from : ℕ) (row : KindRow) → ElementPattern b from → from < 8 → row ≡ rowOf (kindOf from) → IntegerPattern b (row .bits)
+source-pattern b from row h listed is =
+    let i = integer-row from listed row is in
+    record { some = i .some; most = i .most; fits = subst (λ (k : Kind). b < 2 ^ bits k) (sym (integer-of from listed row is)) (h .fits) }

@@ -22,13 +22,11 @@ use Rattle.element.specs.Convert.{endMag, Held, fitted, pastOf}
 use Rattle.cast_spec.specs.Element.{inRange, nearerEnd, beyond, ranged}
 use Rattle.patterns.specs.Pattern.{lowBits, patternOf}
 use Rattle.element.specs.declared.Fit.{Fit}
-use Rattle.kinds.proofs.Listed.{IntegerKind, bits-is, integer-kind, highest-is, signed-is, lowest-is}
 use Rattle.kinds.specs.declared.KindRow.{KindRow}
 use Rattle.element.specs.declared.Fit.the-variants.{Pattern, Past}
-use Rattle.kinds.specs.Codes.{kindOf}
 use Rattle.wrapping.proofs.Residues.{low-bits-mod}
 use Rattle.patterns.proofs.AnyKind.{lowest-in}
-use Rattle.kinds.specs.Row.{rowOf}
+use Rattle.kinds.specs.Row.{integerOf, IntegerRow}
 
 -- ---- a whole number of units, over the unit
 over-unit : (neg : Bool) (N u : ℕ) → 0 < u → shrZ (signed neg (N * u)) u ≡ signed neg N
@@ -166,72 +164,49 @@ module _ (s : Bool) (n : ℕ) (some : 0 < n) (most : n ≤ 64) (neg : Bool) (ran
   near-is : leb (2 ^ 64) N ≡ false → N % 2 ^ 64 ≡ N
   near-is e = mod-eq-of-lt (leb-false (2 ^ 64) N e)
 
--- by the code of the target and its row
-module _ (to : ℕ) (listed : to < 8) (row : KindRow) (is : row ≡ rowOf (kindOf to)) (neg : Bool) (m : ℕ) (far : Bool) (range : OutOfRangeMode) (end : ℕ) (ends : end ≡ endMag (kindOf to) neg) where
-  abbrev i : IntegerKind (kindOf to)
-  i = integer-kind to listed
+  module _ (m : ℕ) (far : Bool) where
+    outside : (r : Fit) → r ≡ pastOf n range neg m (endMag (integer s n) neg) → m ≡ N % 2 ^ 64 → endMag (integer s n) neg < N → fitted (integer s n) v r ≡ ranged (integer s n) range v neg (signed neg (N * 2 ^ 1074))
+    outside r e a h = ap (fitted (integer s n) v) (e ∙ ap (λ (z : ℕ). pastOf n range neg z (endMag (integer s n) neg)) a) ∙ held-past h
 
-  abbrev kind : Kind
-  kind = integer (i .s) (i .n)
+-- by the target's bits and sign, and its end on that side
+module _ (s : Bool) (n : ℕ) (some : 0 < n) (most : n ≤ 64) (neg : Bool) (m : ℕ) (far : Bool) (range : OutOfRangeMode) (end : ℕ) (ends : end ≡ endMag (integer s n) neg) where
+  past-as : (r : Fit) → r ≡ pastOf n range neg m end → r ≡ pastOf n range neg m (endMag (integer s n) neg)
+  past-as r e = e ∙ ap (pastOf n range neg m) ends
 
-  row-bits : row .bits ≡ i .n
-  row-bits = bits-is (kindOf to) i row is
+  pub held-far : far ≡ true → (r : Fit) → r ≡ pastOf n range neg m end → Held neg m far (integer s n) range r
+  held-far f r e = record { is = λ N v a b. outside s n some most neg range N v m far r (past-as r e) a (far-past s n some most neg range N v (sym b ∙ f)) }
 
-  end-is : end ≡ endMag kind neg
-  end-is = ends ∙ ap (λ (k : Kind). endMag k neg) (i .is)
+  pub held-near : far ≡ false → end < m → (r : Fit) → r ≡ pastOf n range neg m end → Held neg m far (integer s n) range r
+  held-near f h r e = record { is = λ N v a b. outside s n some most neg range N v m far r (past-as r e) a (omega (arith, near-is s n some most neg range N v (sym b ∙ f))) }
 
-  outside : (r : Fit) → r ≡ pastOf (row .bits) range neg m end → ((N : ℕ) → m ≡ N % 2 ^ 64 → far ≡ leb (2 ^ 64) N → endMag kind neg < N) → Held neg m far to range r
-  outside r e past = record {
-    is = λ N v a b. subst (λ (k : Kind). fitted k v r ≡ ranged k range v neg (signed neg (N * 2 ^ 1074))) (sym (i .is))
-        (ap (fitted kind v) (e ∙ ap₂ (λ (n x : ℕ). pastOf n range neg m x) row-bits end-is ∙ ap (λ (z : ℕ). pastOf (i .n) range neg z (endMag kind neg)) a) ∙ held-past (i .s) (i .n) (i .some) (i .most) neg range N v (past N a b));
-  }
-
-  pub held-far : far ≡ true → (r : Fit) → r ≡ pastOf (row .bits) range neg m end → Held neg m far to range r
-  held-far f r e = outside r e (λ N a b. far-past (i .s) (i .n) (i .some) (i .most) neg range N 0 (sym b ∙ f))
-
-  pub held-near : far ≡ false → end < m → (r : Fit) → r ≡ pastOf (row .bits) range neg m end → Held neg m far to range r
-  held-near f h r e = outside r e (λ N a b. omega (arith, end-is, near-is (i .s) (i .n) (i .some) (i .most) neg range N 0 (sym b ∙ f)))
-
-  pub held-in : far ≡ false → m ≤ end → (r : ℕ) → r ≡ lowBits (row .bits) (signed neg m) → Held neg m far to range (Pattern r)
+  pub held-in : far ≡ false → m ≤ end → (r : ℕ) → r ≡ lowBits n (signed neg m) → Held neg m far (integer s n) range (Pattern r)
   held-in f h r e = record {
     is = λ N v a b.
-        let c : m ≡ N = a ∙ near-is (i .s) (i .n) (i .some) (i .most) neg range N v (sym b ∙ f) in
-        subst (λ (k : Kind). Stored r ≡ ranged k range v neg (signed neg (N * 2 ^ 1074))) (sym (i .is))
-        (ap Stored (e ∙ ap₂ (λ (n z : ℕ). lowBits n (signed neg z)) row-bits c) ∙ sym (fits-in (i .s) (i .n) neg N range v (omega (arith, c, end-is))));
+        let c : m ≡ N = a ∙ near-is s n some most neg range N v (sym b ∙ f) in
+        ap Stored (e ∙ ap (λ (z : ℕ). lowBits n (signed neg z)) c) ∙ sym (fits-in s n neg N range v (omega arith));
   }
 
 -- ---- the ends by the row
-module _ (to : ℕ) (listed : to < 8) (row : KindRow) (is : row ≡ rowOf (kindOf to)) where
-  by-kind : (neg : Bool) (x : ℕ) → x ≡ endMag (integer (integer-kind to listed .s) (integer-kind to listed .n)) neg → x ≡ endMag (kindOf to) neg
-  by-kind neg x e = e ∙ ap (λ (k : Kind). endMag k neg) (sym (integer-kind to listed .is))
-
-  sign-is : row .signed ≡ integer-kind to listed .s
-  sign-is = signed-is (kindOf to) (integer-kind to listed) row is
-
-  top-is : row .highest ≡ highInt (integer-kind to listed .s) (integer-kind to listed .n)
-  top-is = highest-is (kindOf to) (integer-kind to listed) row is
-
-  pub end-positive : (neg : Bool) → neg ≡ false → row .highest ≡ endMag (kindOf to) neg
+module _ (row : KindRow) (is : IntegerRow row) where
+  pub end-positive : (neg : Bool) → neg ≡ false → row .highest ≡ endMag (integerOf row) neg
   unfolding endMag
-  end-positive neg e = by-kind neg (row .highest) (top-is ∙ ap (endMag (integer (integer-kind to listed .s) (integer-kind to listed .n))) (sym e))
+  end-positive neg e = is .high ∙ ap (endMag (integerOf row)) (sym e)
 
-  pub end-unsigned : (neg : Bool) → neg ≡ true → row .signed ≡ false → 0 ≡ endMag (kindOf to) neg
+  pub end-unsigned : (neg : Bool) → neg ≡ true → row .signed ≡ false → 0 ≡ endMag (integerOf row) neg
   unfolding endMag
-  end-unsigned neg e f = by-kind neg 0 (sym (ap₂ (λ (t u : Bool). endMag (integer t (integer-kind to listed .n)) u) (sym sign-is ∙ f) e))
+  end-unsigned neg e f = sym (ap₂ (λ (t u : Bool). endMag (integer t (row .bits)) u) f e)
 
   -- the highest of a signed kind is one less than the lowest in size
-  raised : row .signed ≡ true → row .highest + 1 ≡ 2 ^ (integer-kind to listed .n - 1)
-  raised f = ap (λ (z : ℕ). z + 1) (top-is ∙ ap (λ (t : Bool). highInt t (integer-kind to listed .n)) (sym sign-is ∙ f)) ∙ omega (arith, pow-pos (integer-kind to listed .n - 1))
+  raised : row .signed ≡ true → row .highest + 1 ≡ 2 ^ (row .bits - 1)
+  raised f = ap (λ (z : ℕ). z + 1) (is .high ∙ ap (λ (t : Bool). highInt t (row .bits)) f) ∙ omega (arith, pow-pos (row .bits - 1))
 
-  pub end-signed : (neg : Bool) → neg ≡ true → row .signed ≡ true → row .highest + 1 ≡ endMag (kindOf to) neg
+  pub end-signed : (neg : Bool) → neg ≡ true → row .signed ≡ true → row .highest + 1 ≡ endMag (integerOf row) neg
   unfolding endMag
-  end-signed neg e f = by-kind neg (row .highest + 1) (raised f ∙ sym (ap₂ (λ (t u : Bool). endMag (integer t (integer-kind to listed .n)) u) (sym sign-is ∙ f) e))
+  end-signed neg e f = raised f ∙ sym (ap₂ (λ (t u : Bool). endMag (integer t (row .bits)) u) f e)
 
   pub raised-fits : row .signed ≡ true → row .highest + 1 < 2 ^ 64
-  raised-fits f = omega (arith, raised f, pow-mono {i = integer-kind to listed .n - 1} {j = 63} (omega (arith, integer-kind to listed .most)))
+  raised-fits f = omega (arith, raised f, pow-mono {i = row .bits - 1} {j = 63} (omega (arith, is .most)))
 
--- ---- a refusal by the row
-pub refused-as : (to : ℕ) (listed : to < 8) (row : KindRow) → row ≡ rowOf (kindOf to) → (v : ℕ) → OutOfRange v (row .lowest) (row .highest) ≡ fitted (kindOf to) v Past
-refused-as to listed row is v =
-    let i = integer-kind to listed in
-    ap₂ (OutOfRange v) (lowest-is (kindOf to) i row is) (highest-is (kindOf to) i row is) ∙ ap (λ (k : Kind). fitted k v Past) (sym (i .is))
+  -- a refusal by the row
+  pub refused-as : (v : ℕ) → OutOfRange v (row .lowest) (row .highest) ≡ fitted (integerOf row) v Past
+  refused-as v = ap₂ (OutOfRange v) (is .low) (is .high)

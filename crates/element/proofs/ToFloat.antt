@@ -32,6 +32,7 @@ use Rattle.grid.proofs.Neighbours.{finer}
 use Rattle.patterns.proofs.AnyKind.{pattern-only, sound}
 use Rattle.grid.specs.Round.{pick, signed, pickMag, ruleFor}
 use Rattle.grid.proofs.Picked.{pick-own}
+use Rattle.kinds.specs.Codes.{kindOf}
 use Rattle.element.specs.Convert.{unmapped, FloatPattern}
 use Rattle.kinds.specs.declared.OutOfRangeMode.the-variants.{Clamp, None, Wrap}
 use Rattle.kinds.specs.declared.KindRow.{KindRow}
@@ -103,7 +104,7 @@ f32-held x on h = (finer 24 925 53 0 (natAbs x) (lit≤ tt) (omega arith) on, in
     inside : (m M : ℕ) → m ≤ M → (negℤ (pos m) ≤ℤ x) × (x ≤ℤ pos m) → (negℤ (pos M) ≤ℤ x) × (x ≤ℤ pos M)
     inside m M l k = (omega (ints, k .0, up-neg (pos m), dn-neg (pos m), up-neg (pos M), dn-neg (pos M)), omega (ints, k .1))
 
-pub widened : (b : ℕ) (mode : RoundingMode) (range : OutOfRangeMode) → Stored (asF64 f32 b) ≡ unmapped 8 9 mode range b
+pub widened : (b : ℕ) (mode : RoundingMode) (range : OutOfRangeMode) → Stored (asF64 f32 b) ≡ unmapped f32 f64 mode range b
 widened b mode range = go (valueOf f32 b) refl
   where
     go : (u : Value) → valueOf f32 b ≡ u → Stored (asF64From f32 b u) ≡ converted (record { from = f32; to = f64; rule = mode; range = range; entries = [] }) b f64 u
@@ -136,24 +137,24 @@ module _ (b : ℕ) (fits : b < 2 ^ 64) (mode : RoundingMode) (range : OutOfRange
       quotient : b / 2 ^ 63 < 2
       quotient = div-lt-iff-lt-mul {k = 2 ^ 63} (pow-pos 63) .1 fits
 
-  pub narrowed-nan : (r : ℕ) → infBits 53 11 < x → r ≡ nanPattern f64 24 8 b → Stored r ≡ unmapped 9 8 mode range b
+  pub narrowed-nan : (r : ℕ) → infBits 53 11 < x → r ≡ nanPattern f64 24 8 b → Stored r ≡ unmapped f64 f32 mode range b
   narrowed-nan r h e = ap Stored e ∙ ap (converted S b f32) (sym (is-nan-value 53 11 0 b (subst (λ (z : ℕ). infBits 53 11 < z) below-sign h)))
 
-  pub narrowed-infinity : x ≡ infBits 53 11 → Stored (b / 2 ^ 63 * 2 ^ 31 % 2 ^ 64 + infBits 24 8) ≡ unmapped 9 8 mode range b
+  pub narrowed-infinity : x ≡ infBits 53 11 → Stored (b / 2 ^ 63 * 2 ^ 31 % 2 ^ 64 + infBits 24 8) ≡ unmapped f64 f32 mode range b
   narrowed-infinity h = ap Stored (moved-sign (infBits 24 8)) ∙ ap (converted S b f32) (sym (is-infinity 53 11 0 b (sym below-sign ∙ h)))
 
   module _ (r : ℕ) (finite : x < infBits 53 11) (is : bitsMag 24 925 r ≡ pickMag (float 24 925) (ruleFor neg mode) (bitsMag 53 0 x)) where
     y : ℤ
     y = signed neg (bitsMag 24 925 r)
 
-    outcome : unmapped 9 8 mode range b ≡ ranged f32 range b neg y
+    outcome : unmapped f64 f32 mode range b ≡ ranged f32 range b neg y
     unfolding y
     outcome =
         ap (converted S b f32) (is-number 53 11 0 b (subst (λ (z : ℕ). z < infBits 53 11) below-sign finite))
         ∙ ap₂ (λ (v : ℕ) (z : ℤ). ranged f32 range v neg z) (asF64-f64 b fits)
         (pick-signed (float 24 925) (lit≤ tt) mode neg (bitsMag 53 0 (b % 2 ^ 63)) ∙ ap (λ (z : ℕ). signed neg (pickMag (float 24 925) (ruleFor neg mode) (bitsMag 53 0 z))) (sym below-sign) ∙ ap (signed neg) (sym is))
 
-    pub narrowed-number : r < infBits 24 8 → Stored (b / 2 ^ 63 * 2 ^ 31 % 2 ^ 64 + r) ≡ unmapped 9 8 mode range b
+    pub narrowed-number : r < infBits 24 8 → Stored (b / 2 ^ 63 * 2 ^ 31 % 2 ^ 64 + r) ≡ unmapped f64 f32 mode range b
     unfolding y patternOf
     narrowed-number h =
         ap Stored (moved-sign r)
@@ -162,15 +163,15 @@ module _ (b : ℕ) (fits : b < 2 ^ 64) (mode : RoundingMode) (range : OutOfRange
         ∙ ap (λ (z : ℕ). Stored (withSign 32 neg (magBits 24 925 z))) (abs-signed neg (bitsMag 24 925 r))
         ∙ ap (λ (z : ℕ). Stored (withSign 32 neg z)) (bits-again 24 8 925 (lit≤ tt) (lit< tt) r))
 
-    overrun-is : infBits 24 8 ≤ r → unmapped 9 8 mode range b ≡ beyond f32 range b neg y
+    overrun-is : infBits 24 8 ≤ r → unmapped f64 f32 mode range b ≡ beyond f32 range b neg y
     unfolding y
     overrun-is h = outcome ∙ past-range-beyond f32 range b neg y (bits-past-range 24 8 925 (lit≤ tt) (lit< tt) neg r h)
 
-    pub narrowed-clamped : infBits 24 8 ≤ r → range ≡ Clamp → Stored (b / 2 ^ 63 * 2 ^ 31 % 2 ^ 64 + infBits 24 8) ≡ unmapped 9 8 mode range b
+    pub narrowed-clamped : infBits 24 8 ≤ r → range ≡ Clamp → Stored (b / 2 ^ 63 * 2 ^ 31 % 2 ^ 64 + infBits 24 8) ≡ unmapped f64 f32 mode range b
     unfolding beyond
     narrowed-clamped h e = ap Stored (moved-sign (infBits 24 8)) ∙ sym (overrun-is h ∙ ap (λ (o : OutOfRangeMode). beyond f32 o b neg y) e)
 
-    pub narrowed-refused : infBits 24 8 ≤ r → (range ≡ Clamp → ⊥) → (row : KindRow) → row ≡ rowOf f32 → FloatOutOfRange b (row .min) (row .max) ≡ unmapped 9 8 mode range b
+    pub narrowed-refused : infBits 24 8 ≤ r → (range ≡ Clamp → ⊥) → (row : KindRow) → row ≡ rowOf f32 → FloatOutOfRange b (row .min) (row .max) ≡ unmapped f64 f32 mode range b
     unfolding beyond rowOf
     narrowed-refused h n row e = ap (λ (z : KindRow). FloatOutOfRange b (z .min) (z .max)) e ∙ sym (overrun-is h ∙ refuses range n)
       where
@@ -180,11 +181,11 @@ module _ (b : ℕ) (fits : b < 2 ^ 64) (mode : RoundingMode) (range : OutOfRange
         refuses Wrap n = refl
 
 -- ---- by the codes
-pub same-code : (b from to : ℕ) → FloatPattern b from → from ≡ to → (mode : RoundingMode) (range : OutOfRangeMode) → Stored b ≡ unmapped from to mode range b
+pub same-code : (b from to : ℕ) → FloatPattern b from → from ≡ to → (mode : RoundingMode) (range : OutOfRangeMode) → Stored b ≡ unmapped (kindOf from) (kindOf to) mode range b
 same-code b from to h e mode range =
     by-float (λ (k : Kind). b < 2 ^ bits k → Stored b ≡ converted (record { from = k; to = k; rule = mode; range = range; entries = [] }) b k (valueOf k b)) from (h .least) (h .most)
     (λ l. same-kind 24 8 925 (lit≤ tt) (lit< tt) b l mode range) (λ l. same-kind 53 11 0 (lit≤ tt) (lit< tt) b l mode range) (h .fits)
-    ∙ ap (λ (c : ℕ). unmapped from c mode range b) e
+    ∙ ap (λ (c : ℕ). unmapped (kindOf from) (kindOf c) mode range b) e
 
 -- of two float codes that differ, one is 8 and the other 9
 pub other-nine : (from to : ℕ) → from ≡ 8 → 8 ≤ to → to ≤ 9 → (from ≡ to → ⊥) → to ≡ 9

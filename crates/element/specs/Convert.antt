@@ -30,9 +30,9 @@ pub record FloatPattern (b code : ℕ) : Type 0 where
   pub most : code ≤ 9
   pub fits : b < 2 ^ bits (kindOf code)
 
--- the outcome of an element that no entry matches, by the codes
-abbrev pub unmapped : ℕ → ℕ → RoundingMode → OutOfRangeMode → ℕ → Outcome
-unmapped from to rule range b = converted (record { from = kindOf from; to = kindOf to; rule = rule; range = range; entries = [] }) b (kindOf to) (valueOf (kindOf from) b)
+-- the outcome of an element that no entry matches
+abbrev pub unmapped : Kind → Kind → RoundingMode → OutOfRangeMode → ℕ → Outcome
+unmapped from to rule range b = converted (record { from = from; to = to; rule = rule; range = range; entries = [] }) b to (valueOf from b)
 
 -- the magnitude of an integer kind's end on one side of zero
 unfoldable pub endMag : Kind → Bool → ℕ
@@ -52,5 +52,5 @@ fitted (integer s n) v Past = OutOfRange v (lowInt s n) (highInt s n)
 fitted (binary p w s) v Past = Stored 0
 
 -- r is what the range step says of any whole number N of that sign, whose magnitude modulo 2^64 is m and reaches 2^64 where `far` says so
-pub record Held (neg : Bool) (m : ℕ) (far : Bool) (to : ℕ) (range : OutOfRangeMode) (r : Fit) : Type 0 where
-  pub is : (N v : ℕ) → m ≡ N % 2 ^ 64 → far ≡ leb (2 ^ 64) N → fitted (kindOf to) v r ≡ ranged (kindOf to) range v neg (signed neg (N * 2 ^ 1074))
+pub record Held (neg : Bool) (m : ℕ) (far : Bool) (to : Kind) (range : OutOfRangeMode) (r : Fit) : Type 0 where
+  pub is : (N v : ℕ) → m ≡ N % 2 ^ 64 → far ≡ leb (2 ^ 64) N → fitted to v r ≡ ranged to range v neg (signed neg (N * 2 ^ 1074))

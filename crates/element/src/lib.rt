@@ -3,12 +3,15 @@ ghost use mathlib.Core.Path.{_≡_};
 ghost use Prim.Native.Nat.{_<_, _≤_};
 ghost use Rattle.grid.specs.declared.RoundingMode.{RoundingMode};
 ghost use Rattle.patterns.specs.Pattern.{asF64};
+ghost use Rattle.patterns.specs.Kind.{f32, f64};
 ghost use Rattle.kinds.specs.Codes.{kindOf};
+ghost use Rattle.kinds.specs.Row.{rowOf, integerOf, IntegerRow};
 ghost use Rattle.kinds.specs.declared.OutOfRangeMode.{OutOfRangeMode};
 ghost use Rattle.rounding.specs.Rounding.{roundedOf};
 ghost use Rattle.integers.specs.Magnitude.{IntegerPattern};
 ghost use Rattle.element.specs.Convert.{ElementPattern, FloatPattern, endMag, pastOf, fitted, Held, unmapped};
 use grid::RoundingMode;
+use kinds::KindRow;
 use kinds::OutOfRangeMode;
 use kinds::Outcome;
 
@@ -19,18 +22,17 @@ pub enum Fit {
 }
 
 // The magnitude of an integer kind's lowest or highest number.
-fn end_magnitude(to: u8, negative: bool) -> u64
-    requires { ⌜ to < 8 ⌝ }
-    ensures { λ r. ⌜ r ≡ endMag (kindOf to) negative ⌝ }
+fn end_magnitude(to: KindRow, negative: bool) -> u64
+    requires { ⌜ IntegerRow to ⌝ }
+    ensures { λ r. ⌜ r ≡ endMag (integerOf to) negative ⌝ }
 {
-    let row = kinds::row_of(to);
     if negative {
-        if row.signed {
-            return row.highest + 1;
+        if to.signed {
+            return to.highest + 1;
         }
         return 0;
     }
-    row.highest
+    to.highest
 }
 
 // A whole number past an integer kind's range, whose end on that side has the magnitude `end`.
@@ -46,12 +48,12 @@ fn past(negative: bool, magnitude: u64, end: u64, bits: u32, range: OutOfRangeMo
 }
 
 // A whole number held to an integer kind's range, given by its sign, its magnitude modulo 2^64, and whether that is 2^64 or more.
-fn hold(negative: bool, magnitude: u64, far: bool, to: u8, range: OutOfRangeMode) -> Fit
-    requires { ⌜ to < 8 ⌝ }
-    ensures { λ r. ⌜ Held negative magnitude far to range r ⌝ }
+fn hold(negative: bool, magnitude: u64, far: bool, to: KindRow, range: OutOfRangeMode) -> Fit
+    requires { ⌜ IntegerRow to ⌝ }
+    ensures { λ r. ⌜ Held negative magnitude far (integerOf to) range r ⌝ }
 {
     let end = end_magnitude(to, negative);
-    let bits = kinds::row_of(to).bits;
+    let bits = to.bits;
     if far {
         return past(negative, magnitude, end, bits, range);
     }
@@ -84,15 +86,14 @@ fn round_float(b: u64, from: u8, mode: RoundingMode) -> u64
 }
 
 // The refusal of an element past an integer kind.
-fn out_of_range(value: u64, to: u8) -> Outcome
-    requires { ⌜ to < 8 ⌝ }
-    ensures { λ r. ⌜ r ≡ fitted (kindOf to) value Fit.Past ⌝ }
+fn out_of_range(value: u64, to: KindRow) -> Outcome
+    requires { ⌜ IntegerRow to ⌝ }
+    ensures { λ r. ⌜ r ≡ fitted (integerOf to) value Fit.Past ⌝ }
 {
-    let row = kinds::row_of(to);
     Outcome::OutOfRange {
         value: value,
-        lo: row.lowest,
-        hi: row.highest,
+        lo: to.lowest,
+        hi: to.highest,
     }
 }
 
@@ -100,12 +101,12 @@ fn out_of_range(value: u64, to: u8) -> Outcome
 pub fn convert_float_to_int(
     b: u64,
     from: u8,
-    to: u8,
+    to: KindRow,
     mode: RoundingMode,
     range: OutOfRangeMode,
 ) -> Outcome
-    requires { ⌜ FloatPattern b from × (to < 8) ⌝ }
-    ensures { λ r. ⌜ r ≡ unmapped from to mode range b ⌝ }
+    requires { ⌜ FloatPattern b from × IntegerRow to ⌝ }
+    ensures { λ r. ⌜ r ≡ unmapped (kindOf from) (integerOf to) mode range b ⌝ }
 {
     let value = float_as_f64(b, from);
     if 0x7ff0_0000_0000_0000 <= value & 0x7fff_ffff_ffff_ffff {
@@ -119,11 +120,11 @@ pub fn convert_float_to_int(
 }
 
 // An integer to an integer kind; nothing is rounded.
-pub fn convert_int_to_int(b: u64, from: u8, to: u8, range: OutOfRangeMode) -> Outcome
-    requires { ⌜ IntegerPattern b from × (to < 8) ⌝ }
-    ensures { λ r. ⌜ ((mode : RoundingMode) → r ≡ unmapped from to mode range b) ⌝ }
+pub fn convert_int_to_int(b: u64, from: KindRow, to: KindRow, range: OutOfRangeMode) -> Outcome
+    requires { ⌜ IntegerPattern b (from .bits) × IntegerRow to ⌝ }
+    ensures { λ r. ⌜ ((mode : RoundingMode) → r ≡ unmapped (integerOf from) (integerOf to) mode range b) ⌝ }
 {
-    let x = integers::int_magnitude(b, from);
+    let x = integers::int_magnitude(b, from.signed, from.bits);
     match hold(x.negative, x.magnitude, false, to, range) {
         Fit::Pattern(pattern) => Outcome::Stored(pattern),
         Fit::Past => {
@@ -138,7 +139,7 @@ pub fn convert_int_to_int(b: u64, from: u8, to: u8, range: OutOfRangeMode) -> Ou
 
 // An f64 to f32.
 fn narrow(b: u64, mode: RoundingMode, range: OutOfRangeMode) -> Outcome
-    ensures { λ r. ⌜ r ≡ unmapped 9 8 mode range b ⌝ }
+    ensures { λ r. ⌜ r ≡ unmapped f64 f32 mode range b ⌝ }
 {
     let magnitude = b & 0x7fff_ffff_ffff_ffff;
     let sign = (b >> 63) << 31;
@@ -172,7 +173,7 @@ pub fn convert_float_to_float(
     range: OutOfRangeMode,
 ) -> Outcome
     requires { ⌜ FloatPattern b from × (8 ≤ to) × (to ≤ 9) ⌝ }
-    ensures { λ r. ⌜ r ≡ unmapped from to mode range b ⌝ }
+    ensures { λ r. ⌜ r ≡ unmapped (kindOf from) (kindOf to) mode range b ⌝ }
 {
     if from == to {
         return Outcome::Stored(b);
@@ -184,11 +185,11 @@ pub fn convert_float_to_float(
 }
 
 // An integer to a float kind, rounded once, from its own bits; the f64 that is narrowed has no more digits than an f32 holds.
-pub fn convert_int_to_float(b: u64, from: u8, to: u8, mode: RoundingMode) -> Outcome
-    requires { ⌜ IntegerPattern b from × (8 ≤ to) × (to ≤ 9) ⌝ }
-    ensures { λ r. ⌜ ((range : OutOfRangeMode) → r ≡ unmapped from to mode range b) ⌝ }
+pub fn convert_int_to_float(b: u64, from: KindRow, to: u8, mode: RoundingMode) -> Outcome
+    requires { ⌜ IntegerPattern b (from .bits) × (8 ≤ to) × (to ≤ 9) ⌝ }
+    ensures { λ r. ⌜ ((range : OutOfRangeMode) → r ≡ unmapped (integerOf from) (kindOf to) mode range b) ⌝ }
 {
-    let x = integers::int_magnitude(b, from);
+    let x = integers::int_magnitude(b, from.signed, from.bits);
     if to == 9 {
         return Outcome::Stored(integers::int_to_f64_bits(x.magnitude, x.negative, 53, mode));
     }
@@ -196,25 +197,27 @@ pub fn convert_int_to_float(b: u64, from: u8, to: u8, mode: RoundingMode) -> Out
     narrow(rounded, mode, OutOfRangeMode::None)
 }
 
-// An element of any kind to any kind.
+// An element of any kind to any kind, by their codes and the rows of these, which a caller reads once for many elements.
 pub fn convert_element(
     b: u64,
     from: u8,
     to: u8,
+    source: KindRow,
+    target: KindRow,
     mode: RoundingMode,
     range: OutOfRangeMode,
 ) -> Outcome
-    requires { ⌜ ElementPattern b from × (to < 10) ⌝ }
-    ensures { λ r. ⌜ r ≡ unmapped from to mode range b ⌝ }
+    requires { ⌜ ElementPattern b from × (to < 10) × (source ≡ rowOf (kindOf from)) × (target ≡ rowOf (kindOf to)) ⌝ }
+    ensures { λ r. ⌜ r ≡ unmapped (kindOf from) (kindOf to) mode range b ⌝ }
 {
     if from < 8 {
         if to < 8 {
-            return convert_int_to_int(b, from, to, range);
+            return convert_int_to_int(b, source, target, range);
         }
-        return convert_int_to_float(b, from, to, mode);
+        return convert_int_to_float(b, source, to, mode);
     }
     if to < 8 {
-        return convert_float_to_int(b, from, to, mode, range);
+        return convert_float_to_int(b, from, target, mode, range);
     }
     convert_float_to_float(b, from, to, mode, range)
 }

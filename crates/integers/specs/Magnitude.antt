@@ -1,16 +1,16 @@
 -- An integer kind's pattern by sign and magnitude: "one element form (integer sign and magnitude, or float)".
 -- Assumes nothing.
 use mathlib.Core.Bool.{false, cond}
-use Prim.Native.Nat.{ℕ, _-_, _^_, _<_}
-use Rattle.patterns.specs.Kind.{Kind, integer, binary, bits}
+use Prim.Native.Nat.{ℕ, _-_, _^_, _≤_, _<_}
+use Rattle.patterns.specs.Kind.{Kind, integer, binary}
 use Rattle.patterns.specs.Value.{negative}
-use Rattle.kinds.specs.Codes.{kindOf}
 use Rattle.integers.specs.declared.Integer.{Integer}
 
--- a pattern of a listed integer kind: the codes 0 to 7
-pub record IntegerPattern (b code : ℕ) : Type 0 where
-  pub listed : code < 8
-  pub fits : b < 2 ^ bits (kindOf code)
+-- a pattern of n bits, at most 64
+pub record IntegerPattern (b n : ℕ) : Type 0 where
+  pub some : 0 < n
+  pub most : n ≤ 64
+  pub fits : b < 2 ^ n
 
 -- a pattern below zero lies 2^n above its number; a float kind has no such pair, and 0 stands there
 unfoldable pub magnitudeOf : Kind → ℕ → Integer

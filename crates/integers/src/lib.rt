@@ -5,9 +5,8 @@ ghost use Prim.Native.Nat.{_*_, _^_, _<_};
 ghost use lib.Ieee.{size};
 ghost use Rattle.grid.specs.Grid.{float};
 ghost use Rattle.grid.specs.Round.{pick, pickMag, ruleFor, signed};
-ghost use Rattle.patterns.specs.Kind.{f64};
+ghost use Rattle.patterns.specs.Kind.{integer, f64};
 ghost use Rattle.patterns.specs.Pattern.{patternOf};
-ghost use Rattle.kinds.specs.Codes.{kindOf};
 ghost use Rattle.integers.specs.Magnitude.{IntegerPattern, magnitudeOf};
 ghost use Rattle.integers.specs.Precision.{Precision, Exactly, stepsUp};
 use grid::RoundingMode;
@@ -18,14 +17,13 @@ pub struct Integer {
     pub magnitude: u64,
 }
 
-// The sign and the magnitude of the pattern b of a listed integer kind.
-pub fn int_magnitude(b: u64, code: u8) -> Integer
-    requires { ⌜ IntegerPattern b code ⌝ }
-    ensures { λ r. ⌜ r ≡ magnitudeOf (kindOf code) b ⌝ }
+// The sign and the magnitude of the pattern b of an integer kind of so many bits.
+pub fn int_magnitude(b: u64, signed: bool, bits: u32) -> Integer
+    requires { ⌜ IntegerPattern b bits ⌝ }
+    ensures { λ r. ⌜ r ≡ magnitudeOf (integer signed bits) b ⌝ }
 {
-    let row = kinds::row_of(code);
-    let half = 1u64 << (row.bits - 1);
-    if !row.signed {
+    let half = 1u64 << (bits - 1);
+    if !signed {
         return Integer {
             negative: false,
             magnitude: b,

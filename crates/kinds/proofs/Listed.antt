@@ -1,6 +1,6 @@
 -- The listed kinds: the codes 0 to 7 are integer kinds of at most 64 bits, and what their rows hold.
 -- Assumes nothing.
-use mathlib.Core.Path.{_≡_, sym, ap, subst, _∙_}
+use mathlib.Core.Path.{_≡_, sym, ap, ap₂, subst, _∙_}
 use mathlib.Core.Bool.{Bool, true, false}
 use Prim.Native.Nat.{ℕ, _-_, _*_, _^_, _≤_, _<_}
 use native.Mathlib.Omega.{arith}
@@ -10,7 +10,7 @@ use Rattle.patterns.specs.Kind.{Kind, bits, highInt, highest, integer, lowInt, 
 use Rattle.kinds.specs.declared.KindRow.{KindRow}
 use Rattle.grid.proofs.Neighbours.{cut}
 use Rattle.kinds.specs.Codes.{kindOf}
-use Rattle.kinds.specs.Row.{rowOf}
+use Rattle.kinds.specs.Row.{rowOf, integerOf, IntegerRow}
 use Rattle.grid.specs.Round.{signed}
 
 -- ---- the kinds of the codes 0 to 7
@@ -51,12 +51,6 @@ module _ (k : Kind) (i : IntegerKind k) (row : KindRow) (is : row ≡ rowOf k) w
   unfolding rowOf
   signed-is = ap (λ (r : KindRow). r .signed) row-is
 
-  pub bits-some : 0 < row .bits
-  bits-some = subst (λ (z : ℕ). 0 < z) (sym bits-is) (i .some)
-
-  pub bits-most : row .bits ≤ 64
-  bits-most = subst (λ (z : ℕ). z ≤ 64) (sym bits-is) (i .most)
-
   pub highest-is : row .highest ≡ highInt (i .s) (i .n)
   unfolding rowOf
   highest-is = ap (λ (r : KindRow). r .highest) row-is
@@ -64,3 +58,25 @@ module _ (k : Kind) (i : IntegerKind k) (row : KindRow) (is : row ≡ rowOf k) w
   pub lowest-is : row .lowest ≡ lowInt (i .s) (i .n)
   unfolding rowOf
   lowest-is = ap (λ (r : KindRow). r .lowest) row-is
+
+-- ---- the row of a listed integer kind
+module _ (code : ℕ) (listed : code < 8) (row : KindRow) (is : row ≡ rowOf (kindOf code)) where
+  abbrev i : IntegerKind (kindOf code)
+  i = integer-kind code listed
+
+  bits-are : row .bits ≡ i .n
+  bits-are = bits-is (kindOf code) i row is
+
+  sign-is : row .signed ≡ i .s
+  sign-is = signed-is (kindOf code) i row is
+
+  pub integer-of : integerOf row ≡ kindOf code
+  integer-of = ap₂ integer sign-is bits-are ∙ sym (i .is)
+
+  pub integer-row : IntegerRow row
+  integer-row = record {
+    some = subst (λ (z : ℕ). 0 < z) (sym bits-are) (i .some);
+    most = subst (λ (z : ℕ). z ≤ 64) (sym bits-are) (i .most);
+    low = lowest-is (kindOf code) i row is ∙ sym (ap₂ lowInt sign-is bits-are);
+    high = highest-is (kindOf code) i row is ∙ sym (ap₂ highInt sign-is bits-are);
+  }

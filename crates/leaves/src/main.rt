@@ -280,10 +280,10 @@ fn digits_kept() {
 
 // ---- integers by sign and magnitude
 
-fn magnitude(b: u64, code: u8)
-    requires { ⌜ IntegerPattern b code ⌝ }
+fn magnitude(b: u64, signed: bool, bits: u32)
+    requires { ⌜ IntegerPattern b bits ⌝ }
 {
-    let m = integers::int_magnitude(b, code);
+    let m = integers::int_magnitude(b, signed, bits);
     text(b"int_magnitude");
     number(b, 16);
     sign(m.negative);
@@ -293,23 +293,23 @@ fn magnitude(b: u64, code: u8)
 
 fn integer_ends() {
     // i8, i16, i32, i64, each by its lowest, -1 and its highest
-    magnitude(0x80, 0);
-    magnitude(0xff, 0);
-    magnitude(0x7f, 0);
-    magnitude(0x8000, 1);
-    magnitude(0xffff, 1);
-    magnitude(0x7fff, 1);
-    magnitude(0x80000000, 2);
-    magnitude(0xffffffff, 2);
-    magnitude(0x7fffffff, 2);
-    magnitude(0x8000000000000000, 3);
-    magnitude(0xffffffffffffffff, 3);
-    magnitude(0x7fffffffffffffff, 3);
+    magnitude(0x80, true, 8);
+    magnitude(0xff, true, 8);
+    magnitude(0x7f, true, 8);
+    magnitude(0x8000, true, 16);
+    magnitude(0xffff, true, 16);
+    magnitude(0x7fff, true, 16);
+    magnitude(0x80000000, true, 32);
+    magnitude(0xffffffff, true, 32);
+    magnitude(0x7fffffff, true, 32);
+    magnitude(0x8000000000000000, true, 64);
+    magnitude(0xffffffffffffffff, true, 64);
+    magnitude(0x7fffffffffffffff, true, 64);
     // u8, u16, u32, u64, each by its highest
-    magnitude(0xff, 4);
-    magnitude(0xffff, 5);
-    magnitude(0xffffffff, 6);
-    magnitude(0xffffffffffffffff, 7);
+    magnitude(0xff, false, 8);
+    magnitude(0xffff, false, 16);
+    magnitude(0xffffffff, false, 32);
+    magnitude(0xffffffffffffffff, false, 64);
 }
 
 // ---- wrap

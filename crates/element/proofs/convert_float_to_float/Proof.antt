@@ -8,6 +8,7 @@ use Rattle.kinds.specs.declared.Outcome.the-variants.{Stored}
 use Rattle.element.specs.Convert.{unmapped}
 use Rattle.element.proofs.FloatToInt.{nine-of}
 use Rattle.element.proofs.ToFloat.{same-code, other-nine, other-eight, widened}
+use Rattle.kinds.specs.Codes.{kindOf}
 use borrow.Author.Needs.{needs}
 use Rattle.element.proofs.convert_float_to_float.Statement.{statement}
 use Rattle.element.proofs.convert_float_to_float.Tie as tie
@@ -22,13 +23,13 @@ widen-requires : tie.Need-widen-requires
 widen-requires c κs = search needs
 
 returns-2 : tie.Need-returns-2
-returns-2 c = let t = c .before .before .before in let a = t .args in let f = c .before .if2 .taken in let o = other-nine (a .from) (a .to) f (t .pre .1) (t .pre .2) (c .before .before .if1 .left) in ap Stored (c .widen .ensures) ∙ widened (a .b) (a .mode) (a .range) ∙ ap₂ (λ (i j : ℕ). unmapped i j (a .mode) (a .range) (a .b)) (sym f) (sym o)
+returns-2 c = let t = c .before .before .before in let a = t .args in let f = c .before .if2 .taken in let o = other-nine (a .from) (a .to) f (t .pre .1) (t .pre .2) (c .before .before .if1 .left) in ap Stored (c .widen .ensures) ∙ widened (a .b) (a .mode) (a .range) ∙ ap₂ (λ (i j : ℕ). unmapped (kindOf i) (kindOf j) (a .mode) (a .range) (a .b)) (sym f) (sym o)
 
 narrow-requires : tie.Need-narrow-requires
 narrow-requires c κs = search needs
 
 returns-3 : tie.Need-returns-3
-returns-3 c = let t = c .before .before .before in let a = t .args in let f = nine-of (a .from) (t .pre .0 .least) (t .pre .0 .most) (c .before .if2 .left) in let o = other-eight (a .from) (a .to) f (t .pre .1) (t .pre .2) (c .before .before .if1 .left) in c .narrow .ensures ∙ ap₂ (λ (i j : ℕ). unmapped i j (a .mode) (a .range) (a .b)) (sym f) (sym o)
+returns-3 c = let t = c .before .before .before in let a = t .args in let f = nine-of (a .from) (t .pre .0 .least) (t .pre .0 .most) (c .before .if2 .left) in let o = other-eight (a .from) (a .to) f (t .pre .1) (t .pre .2) (c .before .before .if1 .left) in c .narrow .ensures ∙ ap₂ (λ (i j : ℕ). unmapped (kindOf i) (kindOf j) (a .mode) (a .range) (a .b)) (sym f) (sym o)
 
 pub convert-float-to-float-spec : {M : Type 1} → statement M
 convert-float-to-float-spec =

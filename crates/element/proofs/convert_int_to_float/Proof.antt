@@ -18,7 +18,7 @@ int-to-f64-bits-requires : tie.Need-int-to-f64-bits-requires
 int-to-f64-bits-requires c κs = search needs
 
 returns : tie.Need-returns
-returns c = let t = c .before .before .before in let a = t .args in let x = c .before .before .int-magnitude in int-to-f64 (a .b) (a .from) (t .pre .0) (x .result) (x .ensures) (a .mode) (c .int-to-f64-bits .result) (a .to) (c .before .if1 .taken) (c .int-to-f64-bits .ensures)
+returns c = let t = c .before .before .before in let a = t .args in let x = c .before .before .int-magnitude in int-to-f64 (a .b) (a .from .signed) (a .from .bits) (t .pre .0) (x .result) (x .ensures) (a .mode) (c .int-to-f64-bits .result) (a .to) (c .before .if1 .taken) (c .int-to-f64-bits .ensures)
 
 int-to-f64-bits-requires-2 : tie.Need-int-to-f64-bits-requires-2
 int-to-f64-bits-requires-2 c κs = search needs
@@ -27,7 +27,7 @@ narrow-requires : tie.Need-narrow-requires
 narrow-requires c κs = search needs
 
 returns-2 : tie.Need-returns-2
-returns-2 c = let t = c .before .before .before .before in let a = t .args in let x = c .before .before .before .int-magnitude in let v = c .before .int-to-f64-bits2 in λ range. c .narrow .ensures ∙ int-to-f32 (a .b) (a .from) (t .pre .0) (x .result) (x .ensures) (a .mode) (v .result) (v .ensures) (a .to) (eight (c .before .before)) range
+returns-2 c = let t = c .before .before .before .before in let a = t .args in let x = c .before .before .before .int-magnitude in let v = c .before .int-to-f64-bits2 in λ range. c .narrow .ensures ∙ int-to-f32 (a .b) (a .from .signed) (a .from .bits) (t .pre .0) (x .result) (x .ensures) (a .mode) (v .result) (v .ensures) (a .to) (eight (c .before .before)) range
 
 pub convert-int-to-float-spec : {M : Type 1} → statement M
 convert-int-to-float-spec =

@@ -11,14 +11,11 @@ use Rattle.element.proofs.out_of_range.Statement.{statement}
 use Rattle.element.proofs.out_of_range.Tie as tie
 
 -- a signed field is read back from its bits as it was
-low-back : (c : tie.After-struct-told) → toZ w64 (ofZ w64 (c .before .row-of .result .lowest)) ≡ c .before .row-of .result .lowest
+low-back : (c : tie.After-struct-told) → toZ w64 (ofZ w64 (c .before .args .to .lowest)) ≡ c .before .args .to .lowest
 low-back c = search needs
 
-row-of-requires : tie.Need-row-of-requires
-row-of-requires c κs = search needs
-
 returns : tie.Need-returns
-returns c = let t = c .before .before in let a = t .args in let r = c .before .row-of in ap (λ (z : ℤ). OutOfRange (a .value) z (r .result .highest)) (low-back c) ∙ refused-as (a .to) (t .pre) (r .result) (r .ensures) (a .value)
+returns c = let t = c .before in let a = t .args in ap (λ (z : ℤ). OutOfRange (a .value) z (a .to .highest)) (low-back c) ∙ refused-as (a .to) (t .pre) (a .value)
 
 pub out-of-range-spec : {M : Type 1} → statement M
-out-of-range-spec = tie.close (tie.spec row-of-requires returns)
+out-of-range-spec = tie.close (tie.spec returns)
