@@ -1,0 +1,70 @@
+// The library's entries for C and for Rust: the chunk call over bytes, and the version.
+ghost use mathlib.Core.Path.{_≡_};
+ghost use Rattle.patterns.specs.Pattern.{lowBits};
+ghost use Rattle.cast_spec.specs.Chunk.{inputs};
+ghost use Rattle.polskrea.specs.Entry.{fieldsOf, Converted, version};
+use kinds::Answer;
+
+// The 64 bits of a signed number, two's complement.
+fn two_complement(z: i64) -> u64
+    ensures { λ r. ⌜ r ≡ lowBits 64 z ⌝ }
+{
+    if z < 0 {
+        return 0xffff_ffff_ffff_ffff - ((-1 - z) as u64);
+    }
+    z as u64
+}
+
+// The four fields of an answer.
+fn fields(a: Answer) -> [u64; 4]
+    ensures { λ r. ⌜ r ≡ fieldsOf a ⌝ }
+{
+    match a {
+        Answer::Converted => [0, 0, 0, 0],
+        Answer::UnknownCode => [0, 0, 0, 0],
+        Answer::BrokenMap => [0, 0, 0, 0],
+        Answer::BrokenElement => [0, 0, 0, 0],
+        Answer::LengthMismatch { src_len, dst_len } => [src_len as u64, dst_len as u64, 0, 0],
+        Answer::NanOrInf { position, value } => [position as u64, value, 0, 0],
+        Answer::OutOfRange {
+            position,
+            value,
+            lo,
+            hi,
+        } => [position as u64, value, two_complement(lo), hi],
+        Answer::FloatOutOfRange {
+            position,
+            value,
+            lo,
+            hi,
+        } => [position as u64, value, lo, hi],
+    }
+}
+
+// Converts a chunk, returns the answer's number, 0 to 7, and leaves its fields in `answer`.
+#[no_mangle]
+pub extern "C" fn polskrea_convert(
+    src: &[u8],
+    dst: &mut [u8],
+    keys: &[u8],
+    targets: &[u8],
+    from: u8,
+    to: u8,
+    rounding: u8,
+    range: u8,
+    answer: &mut [u64; 4],
+) -> u8
+    ensures { λ r. ⌜ Converted (inputs (now (src .entry)) (now (dst .entry)) (now (keys .entry)) (now (targets .entry)) from to rounding range) r (now (answer .exit)) (now (dst .exit)) ⌝ }
+{
+    let a = chunk::convert(src, dst, keys, targets, from, to, rounding, range);
+    *answer = fields(a);
+    kinds::number(a)
+}
+
+// The version of the entries above.
+#[no_mangle]
+pub extern "C" fn polskrea_version() -> u32
+    ensures { λ r. ⌜ r ≡ version ⌝ }
+{
+    1
+}

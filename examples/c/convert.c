@@ -1,0 +1,81 @@
+/* Converts 2.5 and 300 from f64 to u8, first with no range choice and then clamped, and prints each answer. */
+#include <inttypes.h>
+#include <stdio.h>
+#include <string.h>
+
+#include "polskrea.h"
+
+/* Prints the number, the fields that go with it, and the destination. */
+static void show(const char *title, uint8_t number, const uint64_t answer[4], const uint8_t *dst, size_t len)
+{
+    printf("%s: ", title);
+    if (number == POLSKREA_CONVERTED) {
+        printf("ok");
+    } else {
+        printf("refused %u", number);
+    }
+    if (number == POLSKREA_LENGTH_MISMATCH) {
+        printf(", %" PRIu64 " elements into %" PRIu64, answer[0], answer[1]);
+    }
+    if (number >= POLSKREA_NAN_OR_INF) {
+        double value;
+        memcpy(&value, &answer[1], sizeof value);
+        printf(" at %" PRIu64 ", value %g", answer[0], value);
+    }
+    if (number == POLSKREA_OUT_OF_RANGE) {
+        printf(" outside %" PRId64 " to %" PRIu64, (int64_t)answer[2], answer[3]);
+    }
+    if (number == POLSKREA_FLOAT_OUT_OF_RANGE) {
+        double ends[2];
+        memcpy(ends, &answer[2], sizeof ends);
+        printf(" outside %.9g to %.9g", ends[0], ends[1]);
+    }
+    printf(";");
+    for (size_t i = 0; i < len; i++) {
+        printf(" %02x", dst[i]);
+    }
+    printf("\n");
+}
+
+int main(void)
+{
+    const double src[2] = {2.5, 300.0};
+    uint64_t answer[4];
+    uint8_t dst[2] = {0xee, 0xee};
+    uint8_t number;
+
+    if (polskrea_version() != POLSKREA_VERSION) {
+        return 1;
+    }
+
+    /* the source's bytes stand lowest first, as x86-64 has them */
+    number = polskrea_convert((const uint8_t *)src, sizeof src, dst, sizeof dst, NULL, 0, NULL, 0,
+                              POLSKREA_F64, POLSKREA_U8, POLSKREA_NEAREST_EVEN, POLSKREA_NONE, answer);
+    show("none", number, answer, dst, sizeof dst);
+
+    number = polskrea_convert((const uint8_t *)src, sizeof src, dst, sizeof dst, NULL, 0, NULL, 0,
+                              POLSKREA_F64, POLSKREA_U8, POLSKREA_NEAREST_EVEN, POLSKREA_CLAMP, answer);
+    show("clamp", number, answer, dst, sizeof dst);
+
+    /* a map of one entry: 300 goes to 7 */
+    const double key = 300.0;
+    const uint8_t target = 7;
+    number = polskrea_convert((const uint8_t *)src, sizeof src, dst, sizeof dst, (const uint8_t *)&key, sizeof key, &target, 1,
+                              POLSKREA_F64, POLSKREA_U8, POLSKREA_NEAREST_AWAY, POLSKREA_NONE, answer);
+    show("map", number, answer, dst, sizeof dst);
+
+    number = polskrea_convert((const uint8_t *)src, sizeof src, dst, 1, NULL, 0, NULL, 0,
+                              POLSKREA_F64, POLSKREA_U8, POLSKREA_NEAREST_EVEN, POLSKREA_NONE, answer);
+    show("one place", number, answer, dst, 1);
+
+    /* nothing to convert: every pointer may be null but the answer's */
+    number = polskrea_convert(NULL, 0, NULL, 0, NULL, 0, NULL, 0, POLSKREA_F64, POLSKREA_F32, POLSKREA_NEAREST_EVEN, POLSKREA_NONE, answer);
+    show("empty", number, answer, NULL, 0);
+
+    const double large = 1e300;
+    uint8_t single[4] = {0xee, 0xee, 0xee, 0xee};
+    number = polskrea_convert((const uint8_t *)&large, sizeof large, single, sizeof single, NULL, 0, NULL, 0,
+                              POLSKREA_F64, POLSKREA_F32, POLSKREA_NEAREST_EVEN, POLSKREA_NONE, answer);
+    show("1e300 to f32", number, answer, single, sizeof single);
+    return 0;
+}

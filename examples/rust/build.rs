@@ -1,0 +1,14 @@
+//! Tells the linker where libpolskrea.a stands: in POLSKREA_LIB_DIR, or where `rt staticlib polskrea` puts it.
+use std::env;
+use std::path::PathBuf;
+
+fn main() {
+    println!("cargo:rerun-if-env-changed=POLSKREA_LIB_DIR");
+    let folder = match env::var_os("POLSKREA_LIB_DIR") {
+        Some(folder) => PathBuf::from(folder),
+        None => PathBuf::from(env::var_os("CARGO_MANIFEST_DIR").unwrap()).join("../../target/staticlib"),
+    };
+    println!("cargo:rerun-if-changed={}", folder.join("libpolskrea.a").display());
+    println!("cargo:rustc-link-search=native={}", folder.display());
+    println!("cargo:rustc-link-lib=static=polskrea");
+}

@@ -1,0 +1,220 @@
+//! A safe wrapper of `polskrea_convert`: chunks of numbers cast between ten number kinds.
+//!
+//! The library's side is proved (`crates/polskrea`); what this file has to keep is the caller's side of `include/polskrea.h`, and the
+//! borrow checker keeps it: the destination and the answer are `&mut`, so they overlap nothing, and a slice's pointer is good for its length.
+#![deny(missing_docs)]
+
+use std::fmt;
+
+extern "C" {
+    fn polskrea_convert(
+        src: *const u8,
+        src_len: usize,
+        dst: *mut u8,
+        dst_len: usize,
+        keys: *const u8,
+        keys_len: usize,
+        targets: *const u8,
+        targets_len: usize,
+        from: u8,
+        to: u8,
+        rounding: u8,
+        range: u8,
+        answer: *mut [u64; 4],
+    ) -> u8;
+    fn polskrea_version() -> u32;
+}
+
+/// A number kind. Elements are bytes, lowest first.
+#[derive(Debug, Clone, Copy, PartialEq, Eq)]
+#[repr(u8)]
+#[allow(missing_docs)]
+pub enum Kind {
+    I8 = 0,
+    I16 = 1,
+    I32 = 2,
+    I64 = 3,
+    U8 = 4,
+    U16 = 5,
+    U32 = 6,
+    U64 = 7,
+    F32 = 8,
+    F64 = 9,
+}
+
+impl Kind {
+    /// The bytes of an element.
+    pub fn bytes(self) -> usize {
+        match self {
+            Kind::I8 | Kind::U8 => 1,
+            Kind::I16 | Kind::U16 => 2,
+            Kind::I32 | Kind::U32 | Kind::F32 => 4,
+            Kind::I64 | Kind::U64 | Kind::F64 => 8,
+        }
+    }
+}
+
+/// How a number that the target kind has not is rounded.
+#[derive(Debug, Clone, Copy, PartialEq, Eq)]
+#[repr(u8)]
+#[allow(missing_docs)]
+pub enum RoundingMode {
+    NearestEven = 0,
+    TowardsZero = 1,
+    TowardsPositive = 2,
+    TowardsNegative = 3,
+    NearestAway = 4,
+}
+
+/// What becomes of a rounded value past the target's finite range.
+#[derive(Debug, Clone, Copy, PartialEq, Eq)]
+#[repr(u8)]
+pub enum OutOfRangeMode {
+    /// It is refused.
+    None = 0,
+    /// The nearer end of an integer kind; the infinity of its sign in a float kind.
+    Clamp = 1,
+    /// The congruent number of an integer kind; refused with a float target.
+    Wrap = 2,
+}
+
+/// Map entries as bytes: keys of the source kind, targets of the target kind. The first entry whose key equals an element wins.
+#[derive(Debug, Clone, Copy, Default)]
+pub struct Map<'a> {
+    /// The keys, one after the other.
+    pub keys: &'a [u8],
+    /// As many targets.
+    pub targets: &'a [u8],
+}
+
+/// Why a call was refused.
+#[derive(Debug, Clone, Copy, PartialEq)]
+pub enum CastError {
+    /// 1: a code is not listed. Only [`convert_codes`] can answer it.
+    UnknownCode,
+    /// 2: key or target bytes are not whole elements, or their counts differ.
+    BrokenMap,
+    /// 3: source or destination bytes are not whole elements.
+    BrokenElement,
+    /// 4: the element counts differ.
+    LengthMismatch {
+        /// Source elements.
+        src_len: u64,
+        /// Destination elements.
+        dst_len: u64,
+    },
+    /// 5: a NaN or an infinity goes to an integer kind.
+    NanOrInf {
+        /// From 0, in elements.
+        position: u64,
+        /// The element as f64.
+        value: f64,
+    },
+    /// 6: the rounded value is outside an integer target.
+    OutOfRange {
+        /// From 0, in elements.
+        position: u64,
+        /// The element as f64, unrounded; an integer by nearest-even.
+        value: f64,
+        /// The target's lowest number.
+        lo: i64,
+        /// The target's highest number.
+        hi: u64,
+    },
+    /// 7: the rounded value is past a float target's finite range.
+    FloatOutOfRange {
+        /// From 0, in elements.
+        position: u64,
+        /// The element as f64, unrounded; an integer by nearest-even.
+        value: f64,
+        /// The target's lowest finite number.
+        lo: f64,
+        /// The target's highest finite number.
+        hi: f64,
+    },
+}
+
+impl CastError {
+    /// The refusal's number, 1 to 7.
+    pub fn number(self) -> u8 {
+        match self {
+            CastError::UnknownCode => 1,
+            CastError::BrokenMap => 2,
+            CastError::BrokenElement => 3,
+            CastError::LengthMismatch { .. } => 4,
+            CastError::NanOrInf { .. } => 5,
+            CastError::OutOfRange { .. } => 6,
+            CastError::FloatOutOfRange { .. } => 7,
+        }
+    }
+}
+
+impl fmt::Display for CastError {
+    fn fmt(&self, f: &mut fmt::Formatter<'_>) -> fmt::Result {
+        match *self {
+            CastError::UnknownCode => write!(f, "a code is not listed"),
+            CastError::BrokenMap => write!(f, "the map's keys and targets are not as many whole elements"),
+            CastError::BrokenElement => write!(f, "source or destination bytes are not whole elements"),
+            CastError::LengthMismatch { src_len, dst_len } => write!(f, "{src_len} source elements, {dst_len} destination elements"),
+            CastError::NanOrInf { position, value } => write!(f, "element {position}: {value} has no integer"),
+            CastError::OutOfRange { position, value, lo, hi } => write!(f, "element {position}: {value} is outside {lo} to {hi}"),
+            CastError::FloatOutOfRange { position, value, lo, hi } => write!(f, "element {position}: {value} is outside {lo} to {hi}"),
+        }
+    }
+}
+
+impl std::error::Error for CastError {}
+
+/// Converts the elements of `src` in order into `dst`, as `include/polskrea.h` says.
+///
+/// # Errors
+///
+/// The first refusal, 2 to 7. Refusals 2 to 4 leave `dst` as it was; 5 to 7 leave it so from the refused element on.
+pub fn convert(src: &[u8], dst: &mut [u8], map: Map<'_>, from: Kind, to: Kind, rounding: RoundingMode, range: OutOfRangeMode) -> Result<(), CastError> {
+    convert_codes(src, dst, map, from as u8, to as u8, rounding as u8, range as u8)
+}
+
+/// [`convert`] by codes, which may be any bytes.
+///
+/// # Errors
+///
+/// As [`convert`], and 1 where a code is not listed.
+pub fn convert_codes(src: &[u8], dst: &mut [u8], map: Map<'_>, from: u8, to: u8, rounding: u8, range: u8) -> Result<(), CastError> {
+    let mut answer = [0u64; 4];
+    // SAFETY: each pointer and length is a slice's, the two that are written are `&mut`, and nothing is kept.
+    let number = unsafe {
+        polskrea_convert(
+            src.as_ptr(),
+            src.len(),
+            dst.as_mut_ptr(),
+            dst.len(),
+            map.keys.as_ptr(),
+            map.keys.len(),
+            map.targets.as_ptr(),
+            map.targets.len(),
+            from,
+            to,
+            rounding,
+            range,
+            &mut answer,
+        )
+    };
+    let [a, b, c, d] = answer;
+    let value = f64::from_bits(b);
+    Err(match number {
+        0 => return Ok(()),
+        1 => CastError::UnknownCode,
+        2 => CastError::BrokenMap,
+        3 => CastError::BrokenElement,
+        4 => CastError::LengthMismatch { src_len: a, dst_len: b },
+        5 => CastError::NanOrInf { position: a, value },
+        6 => CastError::OutOfRange { position: a, value, lo: c as i64, hi: d },
+        _ => CastError::FloatOutOfRange { position: a, value, lo: f64::from_bits(c), hi: f64::from_bits(d) },
+    })
+}
+
+/// The version of the library's entries: 1, for 0.1.
+pub fn version() -> u32 {
+    // SAFETY: it takes nothing and returns a number.
+    unsafe { polskrea_version() }
+}

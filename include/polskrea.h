@@ -1,0 +1,104 @@
+/*
+ * polskrea: chunks of numbers cast between ten number kinds.
+ *
+ * Link target/staticlib/libpolskrea.a, which `rt staticlib polskrea` makes (x86-64 Linux; it needs no other library, calls nothing, keeps
+ * no state, allocates nothing, and may be called from several threads at once).
+ *
+ * What is said below of the answer and of the destination is proved of the library's code, for every input that keeps the caller's side:
+ * crates/polskrea/specs/Entry.antt states it. Nothing checks the caller's side.
+ */
+#ifndef POLSKREA_H
+#define POLSKREA_H
+
+#include <stddef.h>
+#include <stdint.h>
+
+#ifdef __cplusplus
+extern "C" {
+#endif
+
+/* Kind codes. An element has 1, 2, 4 or 8 bytes, lowest byte first; integers are two's complement, floats are IEEE 754 binary32 and binary64. */
+#define POLSKREA_I8 0
+#define POLSKREA_I16 1
+#define POLSKREA_I32 2
+#define POLSKREA_I64 3
+#define POLSKREA_U8 4
+#define POLSKREA_U16 5
+#define POLSKREA_U32 6
+#define POLSKREA_U64 7
+#define POLSKREA_F32 8
+#define POLSKREA_F64 9
+
+/* Rounding codes. */
+#define POLSKREA_NEAREST_EVEN 0
+#define POLSKREA_TOWARDS_ZERO 1
+#define POLSKREA_TOWARDS_POSITIVE 2
+#define POLSKREA_TOWARDS_NEGATIVE 3
+#define POLSKREA_NEAREST_AWAY 4
+
+/* Range codes: what becomes of an element whose rounded value lies past the target's finite range.
+ * NONE refuses it. CLAMP gives the nearer end of an integer kind, and the infinity of its sign in a float kind.
+ * WRAP gives the number of an integer kind that is congruent to it modulo 2^bits; with a float target it refuses, as NONE does. */
+#define POLSKREA_NONE 0
+#define POLSKREA_CLAMP 1
+#define POLSKREA_WRAP 2
+
+/* The numbers that polskrea_convert returns. */
+#define POLSKREA_CONVERTED 0         /* every element is converted */
+#define POLSKREA_UNKNOWN_CODE 1      /* a kind, rounding or range code is not listed above */
+#define POLSKREA_BROKEN_MAP 2        /* map key or target bytes are not whole elements, or their counts differ */
+#define POLSKREA_BROKEN_ELEMENT 3    /* source or destination bytes are not whole elements */
+#define POLSKREA_LENGTH_MISMATCH 4   /* the element counts of source and destination differ */
+#define POLSKREA_NAN_OR_INF 5        /* a NaN or an infinity that no map entry matches goes to an integer kind, whatever the range code */
+#define POLSKREA_OUT_OF_RANGE 6      /* the rounded value is outside an integer target, range code 0 */
+#define POLSKREA_FLOAT_OUT_OF_RANGE 7 /* the rounded value is past a float target's finite range, range code 0 or 2 */
+
+/*
+ * Converts the elements of `src` in order into `dst`.
+ *
+ * Each element: if it equals a key of the map, the target of the first such entry is stored as it is, unrounded and unchecked. A NaN key
+ * equals every NaN, and +0 and -0 are equal. Otherwise the element is rounded once to the target kind by the rounding code, and then the
+ * range code decides. A zero result keeps the sign of a float element; infinities pass from float to float.
+ * NaN to a float kind: same kind, bits unchanged; f64 to f32 and f32 to f64 keep the sign and the top of the fraction, with its highest bit set.
+ *
+ * `src`, `dst`, `keys` and `targets` each come with their length in BYTES. Keys are elements of the kind `from`, targets of the kind `to`;
+ * entry i is key i and target i. With no map both lengths are 0.
+ *
+ * Returns 0 to 7. Numbers 1 to 4 are tested in that order, then the elements by position, and the first refusal ends the call.
+ *   0          dst holds every converted element.
+ *   1 to 4     dst is as it was.
+ *   5, 6, 7    the elements before the refused one are converted; dst is as it was from the refused one on.
+ *
+ * answer[0..3], always all four written, whatever the number:
+ *   4          source count, destination count (in elements), 0, 0
+ *   5          position, value, 0, 0
+ *   6          position, value, lowest, highest     (the target's ends: lowest as the bits of an int64_t, highest as a uint64_t)
+ *   7          position, value, -MAX, MAX           (the target's finite ends, each as the bits of a double)
+ *   otherwise  0, 0, 0, 0
+ * The position counts elements from 0. The value is the unrounded element as the bits of a double: an integer by nearest-even, a NaN by
+ * the rule above.
+ *
+ * The caller's side:
+ *   - Each pointer is good for its length: `src`, `keys`, `targets` for reading, `dst` and `answer` for reading and writing.
+ *   - A pointer whose length is 0 is never read or written and may be NULL. `answer` is never NULL.
+ *   - `dst` and `answer` overlap nothing else that is passed. `src`, `keys` and `targets` may overlap each other.
+ *   - Nothing else writes to the five while the call runs. No length is above PTRDIFF_MAX.
+ *   - `answer` is aligned for uint64_t. The others need no alignment.
+ * The caller owns all five before, during and after the call; the library keeps no pointer.
+ */
+uint8_t polskrea_convert(const uint8_t *src, size_t src_len,
+                         uint8_t *dst, size_t dst_len,
+                         const uint8_t *keys, size_t keys_len,
+                         const uint8_t *targets, size_t targets_len,
+                         uint8_t from, uint8_t to, uint8_t rounding, uint8_t range,
+                         uint64_t answer[4]);
+
+/* The version of this interface: 1, for 0.1. */
+#define POLSKREA_VERSION 1
+uint32_t polskrea_version(void);
+
+#ifdef __cplusplus
+}
+#endif
+
+#endif

@@ -1,0 +1,141 @@
+//! Times the original's scalar route, its slice functions over typed slices, and ours, the byte route of the proved library, in one run.
+//! Prints ns per element, the best of several repeats, and the ratio.
+use driver::samples::Random;
+use driver::{entries, ours, range_of, rounding_of, width, Element, Settings, KINDS, RANGES, RULES};
+use original::{
+    convert_slice_float_to_float, convert_slice_float_to_int, convert_slice_int_to_float, convert_slice_int_to_int, CastFloat, CastInt, CastInto,
+    FloatToFloatConfig, FloatToIntConfig, IntToFloatConfig, IntToIntConfig,
+};
+use std::hint::black_box;
+use std::time::Instant;
+
+/// A row: settings, the source bytes, the map, and what the row is called beside them.
+struct Row {
+    s: Settings,
+    src: Vec<u8>,
+    keys: Vec<u8>,
+    targets: Vec<u8>,
+    note: &'static str,
+}
+
+/// The original's time for one pass, in seconds, the best of `repeats`.
+type Original = fn(&Row, usize) -> f64;
+
+/// The best time of so many repeats, each of as many passes as last a millisecond or more.
+fn best(repeats: usize, mut pass: impl FnMut()) -> f64 {
+    let start = Instant::now();
+    pass();
+    let once = start.elapsed().as_secs_f64().max(1e-9);
+    let passes = (0.001 / once).ceil().max(1.0) as usize;
+    let mut least = f64::MAX;
+    for _ in 0..repeats {
+        let start = Instant::now();
+        for _ in 0..passes {
+            pass();
+        }
+        least = least.min(start.elapsed().as_secs_f64() / passes as f64);
+    }
+    least
+}
+
+macro_rules! original {
+    ($name:ident, $config:ident, $convert:ident, $src:ident, $dst:ident $(, $field:ident)?) => {
+        fn $name<S: Element + $src + CastInto<D>, D: Element + $dst>(row: &Row, repeats: usize) -> f64 {
+            let src: Vec<S> = row.src.chunks_exact(S::SIZE).map(S::read).collect();
+            let zero = [0u8; 8];
+            let mut dst: Vec<D> = vec![D::read(&zero[..D::SIZE]); src.len()];
+            let config = $config {
+                map_entries: entries::<S, D>(&row.keys, &row.targets),
+                $($field: rounding_of(row.s.rounding),)?
+                out_of_range: range_of(row.s.range),
+            };
+            best(repeats, || {
+                $convert(black_box(&src), black_box(&mut dst), black_box(&config)).expect("nothing is refused");
+            })
+        }
+    };
+}
+
+original!(float_int, FloatToIntConfig, convert_slice_float_to_int, CastFloat, CastInt, rounding);
+original!(int_int, IntToIntConfig, convert_slice_int_to_int, CastInt, CastInt);
+original!(float_float, FloatToFloatConfig, convert_slice_float_to_float, CastFloat, CastFloat, rounding);
+original!(int_float, IntToFloatConfig, convert_slice_int_to_float, CastInt, CastFloat, rounding);
+
+fn proved(row: &Row, repeats: usize) -> f64 {
+    let mut dst = vec![0u8; row.src.len() / width(row.s.from) * width(row.s.to)];
+    best(repeats, || {
+        let a = ours(black_box(row.s), black_box(&row.src), black_box(&mut dst), &row.keys, &row.targets);
+        assert_eq!(a.number, 0, "nothing is refused");
+    })
+}
+
+/// n elements of a kind, each by `make`.
+fn fill<T: Element>(n: usize, mut make: impl FnMut(&mut Random) -> T) -> Vec<u8> {
+    let mut r = Random(7);
+    let mut out = vec![0; n * T::SIZE];
+    for place in out.chunks_exact_mut(T::SIZE) {
+        make(&mut r).write(place);
+    }
+    out
+}
+
+/// A number from 0 to below 1.
+fn unit(r: &mut Random) -> f64 {
+    (r.next() >> 11) as f64 / 2f64.powi(53)
+}
+
+fn between(lo: f64, hi: f64) -> impl FnMut(&mut Random) -> f64 {
+    move |r| lo + (hi - lo) * unit(r)
+}
+
+fn rows(n: usize) -> Vec<(Row, Original)> {
+    let mut out: Vec<(Row, Original)> = Vec::new();
+    let mut add = |from, to, rounding, range, note, src: Vec<u8>, entries: usize, original: Original| {
+        // keys that no element of the data has, so that the whole map is searched each time
+        let keys: Vec<u8> = (0..entries).flat_map(|i| (1e6 + i as f64).to_le_bytes()).collect();
+        let targets = vec![9u8; entries];
+        out.push((Row { s: Settings { from, to, rounding, range }, src, keys, targets, note }, original));
+    };
+    for rounding in [0, 1, 4] {
+        add(9, 4, rounding, 1, "-100 to 400", fill(n, between(-100.0, 400.0)), 0, float_int::<f64, u8>);
+    }
+    add(9, 2, 0, 1, "-3e9 to 3e9", fill(n, between(-3e9, 3e9)), 0, float_int::<f64, i32>);
+    add(9, 2, 0, 0, "-2e9 to 2e9", fill(n, between(-2e9, 2e9)), 0, float_int::<f64, i32>);
+    add(8, 4, 0, 1, "-100 to 400", fill::<f32>(n, |r| (-100.0 + 500.0 * unit(r)) as f32), 0, float_int::<f32, u8>);
+    for rounding in [0, 1, 4] {
+        add(9, 8, rounding, 0, "-1e6 to 1e6", fill(n, between(-1e6, 1e6)), 0, float_float::<f64, f32>);
+    }
+    for rounding in [0, 1, 4] {
+        add(3, 8, rounding, 0, "any i64", fill::<i64>(n, |r| r.next() as i64), 0, int_float::<i64, f32>);
+    }
+    add(9, 3, 0, 2, "in range", fill(n, between(-1e18, 1e18)), 0, float_int::<f64, i64>);
+    add(9, 3, 0, 2, "far out", fill(n, between(-1e25, 1e25)), 0, float_int::<f64, i64>);
+    add(5, 0, 0, 1, "any u16", fill::<u16>(n, |r| r.next() as u16), 0, int_int::<u16, i8>);
+    add(4, 4, 0, 0, "any u8", fill::<u8>(n, |r| r.next() as u8), 0, int_int::<u8, u8>);
+    for (entries, note) in [(0, "map of 0"), (1, "map of 1"), (8, "map of 8")] {
+        add(9, 4, 0, 1, note, fill(n, between(-100.0, 400.0)), entries, float_int::<f64, u8>);
+    }
+    out
+}
+
+fn main() {
+    let repeats: usize = std::env::args().nth(1).map_or(15, |a| a.parse().expect("a number of repeats"));
+    println!("ns per element, best of {repeats} repeats; ratio is ours to the original's");
+    println!("| conversion | data | original 4,096 | ours 4,096 | ratio | original 1,000,000 | ours 1,000,000 | ratio |");
+    println!("|---|---|---|---|---|---|---|---|");
+    for ((small, original), (large, _)) in rows(4096).into_iter().zip(rows(1_000_000)) {
+        let s = small.s;
+        print!("| {} to {}, {}, {} | {} |", KINDS[s.from as usize], KINDS[s.to as usize], RANGES[s.range as usize], RULES[s.rounding as usize], small.note);
+        for row in [&small, &large] {
+            let n = row.src.len() as f64 / width(s.from) as f64;
+            // both in turn, so that what else the machine does falls on both
+            let (mut a, mut b) = (f64::MAX, f64::MAX);
+            for _ in 0..3 {
+                a = a.min(original(row, repeats.div_ceil(3)));
+                b = b.min(proved(row, repeats.div_ceil(3)));
+            }
+            print!(" {:.2} | {:.2} | {:.2} |", a / n * 1e9, b / n * 1e9, b / a);
+        }
+        println!();
+    }
+}

@@ -1,0 +1,320 @@
+//! Compares the proved library with the original, section by section. `--quick` runs a subset; `--list FILE` writes the fixed list.
+use driver::compare::{whole_call, Check, Tally};
+use driver::samples::{biased, edges, Random};
+use driver::{all_settings, put, reference, width, Reference, Settings, KINDS, RANGES, RULES};
+use std::sync::atomic::{AtomicUsize, Ordering};
+use std::sync::Mutex;
+use std::time::Instant;
+
+#[path = "../list.rs"]
+mod list;
+
+/// Runs `work` for each number below `n` on every processor, and adds up what they count.
+fn spread(n: usize, work: impl Fn(&mut Check, usize) + Sync, each: impl Fn(usize) + Sync) -> Tally {
+    let next = AtomicUsize::new(0);
+    let total = Mutex::new(Tally::default());
+    let workers = std::thread::available_parallelism().map_or(1, |n| n.get());
+    std::thread::scope(|scope| {
+        for _ in 0..workers {
+            scope.spawn(|| {
+                let mut check = Check::default();
+                loop {
+                    let i = next.fetch_add(1, Ordering::Relaxed);
+                    if n <= i {
+                        break;
+                    }
+                    work(&mut check, i);
+                    each(i);
+                }
+                total.lock().unwrap().add(check.tally);
+            });
+        }
+    });
+    total.into_inner().unwrap()
+}
+
+struct Report {
+    total: Tally,
+    start: Instant,
+}
+
+impl Report {
+    fn section(&mut self, name: &str, since: Instant, t: Tally) {
+        println!(
+            "{name}: {} elements, {} calls, {} refusals, {} differences ({:.0} s)",
+            t.elements,
+            t.calls,
+            t.refusals,
+            t.differences,
+            since.elapsed().as_secs_f64()
+        );
+        for d in t.smallest.values().take(20) {
+            println!("  difference: {}: element {:#x}: {}", d.settings.name(), d.element, d.text);
+        }
+        if 20 < t.smallest.len() {
+            println!("  and in {} more settings", t.smallest.len() - 20);
+        }
+        self.total.add(t);
+    }
+}
+
+fn bytes_of(kind: u8, patterns: &[u64]) -> Vec<u8> {
+    let mut out = Vec::with_capacity(patterns.len() * width(kind));
+    for p in patterns {
+        put(&mut out, kind, *p);
+    }
+    out
+}
+
+/// The elements of a kind that a settings accepts, and those that it refuses.
+fn sorted(s: Settings, patterns: &[u64]) -> (Vec<u64>, Vec<u64>) {
+    let mut r = Reference::default();
+    reference(s, &bytes_of(s.from, patterns), &[], &[], &mut r);
+    let mut refused = r.refused.iter().map(|a| a.words[0] as usize).peekable();
+    let (mut yes, mut no) = (Vec::new(), Vec::new());
+    for (i, p) in patterns.iter().enumerate() {
+        if refused.next_if_eq(&i).is_some() {
+            no.push(*p);
+        } else {
+            yes.push(*p);
+        }
+    }
+    (yes, no)
+}
+
+/// Every setting: every edge of the source kind, and chunks with a refusal early, in the middle, late and not at all.
+fn settings(report: &mut Report) {
+    let since = Instant::now();
+    let all = all_settings();
+    let edge: Vec<Vec<u64>> = (0..10).map(edges).collect();
+    let t = spread(
+        all.len(),
+        |check, i| {
+            let s = all[i];
+            let patterns = &edge[s.from as usize];
+            check.chunk(s, &bytes_of(s.from, patterns), &[], &[], 4);
+            let (yes, no) = sorted(s, patterns);
+            let mut r = Random(i as u64);
+            for length in [1, 2, 3, 7, 16, 65, 300] {
+                let mut chunk: Vec<u64> = (0..length).map(|_| yes[r.below(yes.len() as u64) as usize]).collect();
+                let plain = bytes_of(s.from, &chunk);
+                for mark in [0x00, 0x5a, 0xff] {
+                    let dst = vec![mark; length * width(s.to)];
+                    let (want, after) = whole_call(s, &plain, &dst, &[], &[]);
+                    check.call(s, &plain, &dst, &[], &[], want, &after);
+                    if no.is_empty() {
+                        continue;
+                    }
+                    for place in [0, length / 2, length - 1] {
+                        let kept = chunk[place];
+                        chunk[place] = no[r.below(no.len() as u64) as usize];
+                        let src = bytes_of(s.from, &chunk);
+                        let (want, after) = whole_call(s, &src, &dst, &[], &[]);
+                        check.call(s, &src, &dst, &[], &[], want, &after);
+                        chunk[place] = kept;
+                    }
+                }
+            }
+        },
+        |_| {},
+    );
+    report.section("all 1,500 settings on every edge of the source kind, refusals early, late and none", since, t);
+}
+
+/// Every pattern of the 8- and 16-bit kinds, in every setting.
+fn small_kinds(report: &mut Report) {
+    let since = Instant::now();
+    let all: Vec<Settings> = all_settings().into_iter().filter(|s| matches!(s.from, 0 | 1 | 4 | 5)).collect();
+    let t = spread(
+        all.len(),
+        |check, i| {
+            let s = all[i];
+            let patterns: Vec<u64> = (0..1 << (width(s.from) * 8)).collect();
+            check.chunk(s, &bytes_of(s.from, &patterns), &[], &[], 16);
+        },
+        |_| {},
+    );
+    report.section("every pattern of i8, i16, u8 and u16 to every target, in every rule and range", since, t);
+}
+
+/// Random elements of the 32- and 64-bit kinds in every setting, biased to halfway points and ends.
+fn random(report: &mut Report, wide: usize, narrow: usize) {
+    let since = Instant::now();
+    let all: Vec<Settings> = all_settings().into_iter().filter(|s| !matches!(s.from, 0 | 1 | 4 | 5)).collect();
+    let t = spread(
+        all.len(),
+        |check, i| {
+            let s = all[i];
+            let mut r = Random(0x1000 + i as u64);
+            let count = if width(s.from) == 8 { wide } else { narrow };
+            for _ in 0..count / 4096 {
+                let patterns: Vec<u64> = (0..4096).map(|_| biased(s.from, &mut r)).collect();
+                check.chunk(s, &bytes_of(s.from, &patterns), &[], &[], 16);
+            }
+        },
+        |_| {},
+    );
+    report.section("random elements of i32, i64, u32, u64, f32 and f64 in every setting", since, t);
+}
+
+/// Maps with NaNs, zeros of both signs, infinities and duplicates, in every setting.
+fn maps(report: &mut Report, rounds: usize) {
+    let since = Instant::now();
+    let all = all_settings();
+    let edge: Vec<Vec<u64>> = (0..10).map(edges).collect();
+    let t = spread(
+        all.len(),
+        |check, i| {
+            let s = all[i];
+            let mut r = Random(0x2000 + i as u64);
+            for round in 0..rounds {
+                let m = list::a_map(s, &edge, round, &mut r);
+                check.chunk(s, &bytes_of(s.from, &m.elements), &bytes_of(s.from, &m.keys), &bytes_of(s.to, &m.targets), 80);
+            }
+        },
+        |_| {},
+    );
+    report.section("maps: NaN keys, zeros of both signs, infinities, duplicates", since, t);
+}
+
+/// Broken lengths and bad codes, against document 01's table.
+fn malformed(report: &mut Report, deep: bool) {
+    let since = Instant::now();
+    let t = spread(
+        100,
+        |check, i| {
+            let mut r = Random(0x3000 + i as u64);
+            let (from, to) = ((i / 10) as u8, (i % 10) as u8);
+            let zeros = [0u8; 64];
+            let mark = [0x77u8; 64];
+            let top = if deep { 18 } else { 9 };
+            for src in 0..top {
+                for dst in 0..top {
+                    for keys in 0..10 {
+                        for targets in 0..10 {
+                            let s = Settings { from, to, rounding: r.below(5) as u8, range: r.below(3) as u8 };
+                            let (a, b, c, d) = (&zeros[..src], &mark[..dst], &zeros[..keys], &mark[..targets]);
+                            let (want, after) = whole_call(s, a, b, c, d);
+                            check.call(s, a, b, c, d, want, &after);
+                        }
+                    }
+                }
+            }
+            // a code that is not listed comes before every other fault
+            for code in 0..=255u8 {
+                for place in 0..4 {
+                    for lengths in [(16, 16, 8, 8), (5, 3, 1, 2), (0, 0, 0, 0), (8, 3, 0, 0)] {
+                        let mut s = Settings { from, to, rounding: r.below(5) as u8, range: r.below(3) as u8 };
+                        *[&mut s.from, &mut s.to, &mut s.rounding, &mut s.range][place] = code;
+                        let (a, b, c, d) = (&zeros[..lengths.0], &mark[..lengths.1], &zeros[..lengths.2], &mark[..lengths.3]);
+                        let (want, after) = whole_call(s, a, b, c, d);
+                        check.call(s, a, b, c, d, want, &after);
+                    }
+                }
+            }
+        },
+        |_| {},
+    );
+    report.section("broken lengths and bad codes, by the table of document 01", since, t);
+}
+
+/// The patterns of a 32-bit kind, each of them or every so many chunks, for one conversion in each of the five rules.
+fn sweep(report: &mut Report, from: u8, to: u8, range: u8, step: u64) {
+    const BLOCK: u64 = 1 << 24;
+    const CHUNK: u64 = 1 << 14;
+    let blocks = ((1u64 << 32) / BLOCK) as usize;
+    let since = Instant::now();
+    let said = Mutex::new(Instant::now());
+    let mut total = Tally::default();
+    for rounding in 0..5 {
+        let s = Settings { from, to, rounding, range };
+        let done = AtomicUsize::new(0);
+        let t = spread(
+            blocks,
+            |check, i| {
+                let mut src = Vec::with_capacity(CHUNK as usize * 4);
+                let mut at = i as u64 * BLOCK;
+                while at < (i as u64 + 1) * BLOCK {
+                    src.clear();
+                    for p in at..at + CHUNK {
+                        src.extend_from_slice(&(p as u32).to_le_bytes());
+                    }
+                    check.chunk(s, &src, &[], &[], 8);
+                    at += CHUNK * step;
+                }
+            },
+            |_| {
+                let k = done.fetch_add(1, Ordering::Relaxed) + 1;
+                let mut last = said.lock().unwrap();
+                if 20 <= last.elapsed().as_secs() {
+                    *last = Instant::now();
+                    println!("  {}: {}% ({:.0} s)", s.name(), k * 100 / blocks, report.start.elapsed().as_secs_f64());
+                }
+            },
+        );
+        total.add(t);
+    }
+    let what = if step == 1 { "each of the 2^32 patterns" } else { "some patterns" };
+    report.section(&format!("{} to {}, {}: {what} in the five rules", KINDS[from as usize], KINDS[to as usize], RANGES[range as usize]), since, total);
+}
+
+/// The machine's rounding modes and exact integer arithmetic as a second opinion, on the same samples.
+fn second_opinion(report: &mut Report, count: usize) {
+    let since = Instant::now();
+    let mut all = Vec::new();
+    for from in [2, 3, 6, 7, 8, 9] {
+        for to in 0..10 {
+            for rounding in 0..5 {
+                if driver::ieee::has_opinion(from, to) {
+                    all.push(Settings { from, to, rounding, range: 1 });
+                }
+            }
+        }
+    }
+    let edge: Vec<Vec<u64>> = (0..10).map(edges).collect();
+    let t = spread(
+        all.len(),
+        |check, i| {
+            let s = all[i];
+            check.opinion(s, &edge[s.from as usize]);
+            let mut r = Random(0x1000 + i as u64);
+            for _ in 0..count / 4096 {
+                let patterns: Vec<u64> = (0..4096).map(|_| biased(s.from, &mut r)).collect();
+                check.opinion(s, &patterns);
+            }
+        },
+        |_| {},
+    );
+    report.section(&format!("IEEE 754, a second opinion: fesetround for {}, {}, {}, {}; exact integers for {}", RULES[0], RULES[1], RULES[2], RULES[3], RULES[4]), since, t);
+}
+
+fn main() {
+    let args: Vec<String> = std::env::args().skip(1).collect();
+    if args.first().is_some_and(|a| a == "--list") {
+        return list::write(&args[1]);
+    }
+    let quick = args.iter().any(|a| a == "--quick");
+    let mut report = Report { total: Tally::default(), start: Instant::now() };
+    settings(&mut report);
+    small_kinds(&mut report);
+    maps(&mut report, if quick { 20 } else { 200 });
+    malformed(&mut report, !quick);
+    random(&mut report, if quick { 1 << 13 } else { 1 << 18 }, if quick { 1 << 13 } else { 1 << 17 });
+    second_opinion(&mut report, if quick { 1 << 13 } else { 1 << 18 });
+    let step = if quick { 1024 } else { 1 };
+    for (from, to, range) in [(8, 4, 1), (8, 2, 1), (8, 3, 0), (8, 9, 0), (2, 8, 0), (6, 8, 0)] {
+        sweep(&mut report, from, to, range, step);
+    }
+    let t = &report.total;
+    println!(
+        "total: {} elements, {} calls, {} refusals, {} differences in {} settings, {:.0} s{}",
+        t.elements,
+        t.calls,
+        t.refusals,
+        t.differences,
+        t.smallest.len(),
+        report.start.elapsed().as_secs_f64(),
+        if quick { " (quick)" } else { "" }
+    );
+    std::process::exit(i32::from(t.differences != 0));
+}

@@ -1,0 +1,293 @@
+//! Both sides of the comparison: `ours`, the proved static library, and `reference`, the original's element functions applied in order.
+use original::{
+    convert_float_to_float, convert_float_to_int, convert_int_to_float, convert_int_to_int, CastError, CastFloat, CastInt, CastInto,
+    FloatToFloatConfig, FloatToIntConfig, IntToFloatConfig, IntToIntConfig, MapEntry, OutOfRangeMode, RoundingMode,
+};
+use std::ptr;
+
+pub mod compare;
+pub mod ieee;
+pub mod samples;
+
+extern "C" {
+    fn polskrea_convert(
+        src: *const u8,
+        src_len: usize,
+        dst: *mut u8,
+        dst_len: usize,
+        keys: *const u8,
+        keys_len: usize,
+        targets: *const u8,
+        targets_len: usize,
+        from: u8,
+        to: u8,
+        rounding: u8,
+        range: u8,
+        answer: *mut [u64; 4],
+    ) -> u8;
+}
+
+pub const KINDS: [&str; 10] = ["i8", "i16", "i32", "i64", "u8", "u16", "u32", "u64", "f32", "f64"];
+pub const RULES: [&str; 5] = ["nearest-even", "towards-zero", "towards-positive", "towards-negative", "nearest-away"];
+pub const RANGES: [&str; 3] = ["none", "clamp", "wrap"];
+
+/// The bytes of an element of a listed kind.
+pub fn width(kind: u8) -> usize {
+    [1, 2, 4, 8, 1, 2, 4, 8, 4, 8][kind as usize]
+}
+
+pub fn is_float(kind: u8) -> bool {
+    8 <= kind
+}
+
+#[derive(Clone, Copy, Debug, PartialEq, Eq, PartialOrd, Ord)]
+pub struct Settings {
+    pub from: u8,
+    pub to: u8,
+    pub rounding: u8,
+    pub range: u8,
+}
+
+impl Settings {
+    pub fn name(&self) -> String {
+        let pick = |names: &[&str], code: u8| names.get(code as usize).map_or(format!("code {code}"), |s| s.to_string());
+        format!("{} to {}, {}, {}", pick(&KINDS, self.from), pick(&KINDS, self.to), pick(&RULES, self.rounding), pick(&RANGES, self.range))
+    }
+}
+
+/// All settings that are listed, 10 x 10 x 5 x 3.
+pub fn all_settings() -> Vec<Settings> {
+    let mut all = Vec::new();
+    for from in 0..10 {
+        for to in 0..10 {
+            for rounding in 0..5 {
+                for range in 0..3 {
+                    all.push(Settings { from, to, rounding, range });
+                }
+            }
+        }
+    }
+    all
+}
+
+/// A call's number and its four words.
+#[derive(Clone, Copy, Debug, PartialEq, Eq)]
+pub struct Answer {
+    pub number: u8,
+    pub words: [u64; 4],
+}
+
+impl Answer {
+    pub const CONVERTED: Answer = Answer { number: 0, words: [0; 4] };
+
+    /// Equal, with the value of 5 to 7 a NaN where the other's is one.
+    pub fn same(&self, other: &Answer) -> bool {
+        if self == other {
+            return true;
+        }
+        let nan = |a: &Answer| f64::from_bits(a.words[1]).is_nan();
+        5 <= self.number
+            && self.number == other.number
+            && self.words[0] == other.words[0]
+            && self.words[2..] == other.words[2..]
+            && nan(self)
+            && nan(other)
+    }
+
+    pub fn text(&self) -> String {
+        let [a, b, c, d] = self.words;
+        match self.number {
+            4 => format!("4, counts {a} and {b}, {c:#x}, {d:#x}"),
+            n if 5 <= n => format!("{n} at {a}, value {b:#018x} ({:e}), ends {c:#x} and {d:#x}", f64::from_bits(b)),
+            n => format!("{n}, words {a:#x} {b:#x} {c:#x} {d:#x}"),
+        }
+    }
+}
+
+fn address(s: &[u8]) -> *const u8 {
+    if s.is_empty() {
+        ptr::null()
+    } else {
+        s.as_ptr()
+    }
+}
+
+/// The proved library. An empty slice goes in as a null pointer.
+#[inline]
+pub fn ours(s: Settings, src: &[u8], dst: &mut [u8], keys: &[u8], targets: &[u8]) -> Answer {
+    let mut words = [0x5555_5555_5555_5555; 4];
+    let to = if dst.is_empty() { ptr::null_mut() } else { dst.as_mut_ptr() };
+    // SAFETY: pointers and lengths are slices', and what is written is `&mut`.
+    let number = unsafe {
+        polskrea_convert(
+            address(src),
+            src.len(),
+            to,
+            dst.len(),
+            address(keys),
+            keys.len(),
+            address(targets),
+            targets.len(),
+            s.from,
+            s.to,
+            s.rounding,
+            s.range,
+            &mut words,
+        )
+    };
+    Answer { number, words }
+}
+
+/// An element type and its bytes.
+pub trait Element: Copy + 'static {
+    const CODE: u8;
+    const SIZE: usize;
+    fn read(bytes: &[u8]) -> Self;
+    fn write(self, bytes: &mut [u8]);
+}
+
+macro_rules! elements {
+    ($($ty:ty: $code:expr),*) => {
+        $(impl Element for $ty {
+            const CODE: u8 = $code;
+            const SIZE: usize = size_of::<$ty>();
+            #[inline]
+            fn read(bytes: &[u8]) -> Self { <$ty>::from_le_bytes(bytes.try_into().unwrap()) }
+            #[inline]
+            fn write(self, bytes: &mut [u8]) { bytes.copy_from_slice(&self.to_le_bytes()) }
+        })*
+    };
+}
+
+elements!(i8: 0, i16: 1, i32: 2, i64: 3, u8: 4, u16: 5, u32: 6, u64: 7, f32: 8, f64: 9);
+
+pub fn rounding_of(code: u8) -> RoundingMode {
+    match code {
+        0 => RoundingMode::NearestEven,
+        1 => RoundingMode::TowardsZero,
+        2 => RoundingMode::TowardsPositive,
+        3 => RoundingMode::TowardsNegative,
+        4 => RoundingMode::NearestAway,
+        _ => unreachable!("a listed rounding code"),
+    }
+}
+
+pub fn range_of(code: u8) -> Option<OutOfRangeMode> {
+    match code {
+        0 => None,
+        1 => Some(OutOfRangeMode::Clamp),
+        2 => Some(OutOfRangeMode::Wrap),
+        _ => unreachable!("a listed range code"),
+    }
+}
+
+/// What the original's element functions say of each element: the stored bytes, and the refusals by position.
+#[derive(Default)]
+pub struct Reference {
+    pub stored: Vec<u8>,
+    pub refused: Vec<Answer>,
+}
+
+fn refusal(position: usize, error: CastError) -> Answer {
+    let at = position as u64;
+    match error {
+        CastError::NanOrInf { value } => Answer { number: 5, words: [at, value.to_bits(), 0, 0] },
+        CastError::OutOfRange { value, lo, hi } => {
+            let lo = i64::try_from(lo).expect("a lowest end fits i64") as u64;
+            let hi = u64::try_from(hi).expect("a highest end fits u64");
+            Answer { number: 6, words: [at, value.to_bits(), lo, hi] }
+        }
+        CastError::FloatOutOfRange { value, lo, hi } => Answer { number: 7, words: [at, value.to_bits(), lo.to_bits(), hi.to_bits()] },
+        CastError::LengthMismatch { .. } => unreachable!("an element function compares no lengths"),
+    }
+}
+
+pub fn entries<S: Element, D: Element>(keys: &[u8], targets: &[u8]) -> Vec<MapEntry<S, D>> {
+    keys.chunks_exact(S::SIZE).zip(targets.chunks_exact(D::SIZE)).map(|(k, t)| MapEntry { src: S::read(k), tgt: D::read(t) }).collect()
+}
+
+macro_rules! route {
+    ($name:ident, $config:ident, $convert:ident, $src:ident, $dst:ident $(, $field:ident)?) => {
+        fn $name<S: Element + $src + CastInto<D>, D: Element + $dst>(s: Settings, src: &[u8], keys: &[u8], targets: &[u8], out: &mut Reference) {
+            let config = $config { map_entries: entries::<S, D>(keys, targets), $($field: rounding_of(s.rounding),)? out_of_range: range_of(s.range) };
+            let places = out.stored.chunks_exact_mut(D::SIZE);
+            for (i, (b, place)) in src.chunks_exact(S::SIZE).zip(places).enumerate() {
+                match $convert(S::read(b), &config) {
+                    Ok(y) => y.write(place),
+                    Err(e) => out.refused.push(refusal(i, e)),
+                }
+            }
+        }
+    };
+}
+
+route!(float_int, FloatToIntConfig, convert_float_to_int, CastFloat, CastInt, rounding);
+route!(int_int, IntToIntConfig, convert_int_to_int, CastInt, CastInt);
+route!(float_float, FloatToFloatConfig, convert_float_to_float, CastFloat, CastFloat, rounding);
+route!(int_float, IntToFloatConfig, convert_int_to_float, CastInt, CastFloat, rounding);
+
+macro_rules! by_target {
+    ($S:ty, $int:ident, $float:ident, $s:expr, $args:tt) => {
+        match $s.to {
+            0 => $int::<$S, i8> $args,
+            1 => $int::<$S, i16> $args,
+            2 => $int::<$S, i32> $args,
+            3 => $int::<$S, i64> $args,
+            4 => $int::<$S, u8> $args,
+            5 => $int::<$S, u16> $args,
+            6 => $int::<$S, u32> $args,
+            7 => $int::<$S, u64> $args,
+            8 => $float::<$S, f32> $args,
+            9 => $float::<$S, f64> $args,
+            _ => unreachable!("a listed kind"),
+        }
+    };
+}
+
+/// Fills `out` by the original's element functions, for listed settings, whole elements and a whole map. What is refused holds 0.
+pub fn reference(s: Settings, src: &[u8], keys: &[u8], targets: &[u8], out: &mut Reference) {
+    out.stored.clear();
+    out.stored.resize(src.len() / width(s.from) * width(s.to), 0);
+    out.refused.clear();
+    match s.from {
+        0 => by_target!(i8, int_int, int_float, s, (s, src, keys, targets, out)),
+        1 => by_target!(i16, int_int, int_float, s, (s, src, keys, targets, out)),
+        2 => by_target!(i32, int_int, int_float, s, (s, src, keys, targets, out)),
+        3 => by_target!(i64, int_int, int_float, s, (s, src, keys, targets, out)),
+        4 => by_target!(u8, int_int, int_float, s, (s, src, keys, targets, out)),
+        5 => by_target!(u16, int_int, int_float, s, (s, src, keys, targets, out)),
+        6 => by_target!(u32, int_int, int_float, s, (s, src, keys, targets, out)),
+        7 => by_target!(u64, int_int, int_float, s, (s, src, keys, targets, out)),
+        8 => by_target!(f32, float_int, float_float, s, (s, src, keys, targets, out)),
+        9 => by_target!(f64, float_int, float_float, s, (s, src, keys, targets, out)),
+        _ => unreachable!("a listed kind"),
+    }
+}
+
+/// An element's bytes as a number, lowest byte first.
+pub fn pattern(bytes: &[u8]) -> u64 {
+    bytes.iter().rev().fold(0, |n, b| n << 8 | u64::from(*b))
+}
+
+/// Appends the element of a kind that has this pattern.
+pub fn put(out: &mut Vec<u8>, kind: u8, pattern: u64) {
+    out.extend_from_slice(&pattern.to_le_bytes()[..width(kind)]);
+}
+
+/// Whether a pattern of a kind is a NaN.
+pub fn is_nan(kind: u8, pattern: u64) -> bool {
+    match kind {
+        8 => f32::from_bits(pattern as u32).is_nan(),
+        9 => f64::from_bits(pattern).is_nan(),
+        _ => false,
+    }
+}
+
+/// Whether two runs of elements of a kind are the same, a NaN as a NaN; else the position of the first that differ.
+pub fn first_difference(kind: u8, a: &[u8], b: &[u8]) -> Option<usize> {
+    if a == b {
+        return None;
+    }
+    let w = width(kind);
+    a.chunks_exact(w).zip(b.chunks_exact(w)).position(|(x, y)| x != y && !(is_nan(kind, pattern(x)) && is_nan(kind, pattern(y))))
+}
