@@ -140,7 +140,7 @@ fn run(
 }
 
 // Whether every code is listed.
-fn codes_listed(from: u8, to: u8, rounding: u8, range: u8) -> bool
+pub fn codes_listed(from: u8, to: u8, rounding: u8, range: u8) -> bool
     ensures { λ r. ⌜ r ≡ ltb from 10 && ltb to 10 && ltb rounding 5 && ltb range 3 ⌝ }
 {
     if 10 <= from {

@@ -1,0 +1,105 @@
+-- The chunk call into a lent buffer, and its report.
+-- Assumes nothing.
+use mathlib.Core.Path.{_≡_, sym, ap, ap₂, subst, _∙_}
+use mathlib.Core.Logic.{⊎-elim}
+use mathlib.Core.List.{List, _++_}
+use Prim.Native.Nat.{ℕ, _+_, _*_, _/_, _≤_, _<_}
+use native.Mathlib.Nat.{le-of-eq, le-trans, mul-le-mul, div-le-self}
+use native.Mathlib.Omega.{arith}
+use lib.ListN.{length, take, drop, replicate, length-append, length-replicate}
+use lib.Seq.{take-at, length-take-le}
+use Rattle.kinds.specs.Answer.{positionOf}
+use Rattle.kinds.specs.Codes.{kindOf}
+use Rattle.kinds.specs.Row.{rowOf}
+use Rattle.kinds.specs.declared.Answer.{Answer}
+use Rattle.kinds.specs.declared.KindRow.{KindRow}
+use Rattle.mapping.proofs.Codes.{row-width}
+use Rattle.cast_spec.specs.Chunk.{Inputs, inputs, width, answerOf, destinationOf}
+use Rattle.cast_spec.specs.Demand3.{Contract}
+use Rattle.chunk.proofs.Elements.{listed-width}
+use Rattle.chunk.proofs.Exits.{width-pos}
+use Rattle.listing.specs.Listing.{report, reportOf, chunkOf}
+use Rattle.listing.specs.Parts.{Wrote, Width, ReportIn, CallIn}
+use Rattle.listing.proofs.Unchanged.{position-counted, same-report}
+
+-- ---- the widths of listed kinds
+width-most : {w : ℕ} → Width w → w ≤ 8
+width-most {w} h = ⊎-elim (λ (e : w ≡ 1). omega arith) (⊎-elim (λ (e : w ≡ 2). omega arith) (⊎-elim (λ (e : w ≡ 4). omega arith) (λ (e : w ≡ 8). omega arith))) h
+
+module _ (code : ℕ) (listed : code < 10) (row : KindRow) (is : row ≡ rowOf (kindOf code)) where
+  pub row-listed : Width (row .bytes)
+  row-listed = subst Width (sym (row-width (kindOf code) row is)) (listed-width code listed)
+
+  pub row-most : row .bytes ≤ 8
+  row-most = width-most row-listed
+
+  pub row-some : 0 < row .bytes
+  row-some = subst (λ (z : ℕ). 0 < z) (sym (row-width (kindOf code) row is)) (width-pos code listed)
+
+-- ---- n elements of w bytes, each of at most 8, of at most 8,186 bytes of source
+pub destination-most : (n w : ℕ) → n ≤ 8186 → w ≤ 8 → n * w ≤ 65488
+destination-most n w h l = mul-le-mul h l
+
+lines-most : (n w : ℕ) → n ≤ 8186 → w ≤ 8 → 18 + n * (2 * w + 1) ≤ 139180
+lines-most n w h l =
+    let m : 2 * w + 1 ≤ 17 = omega arith in
+    let k : n * (2 * w + 1) ≤ 8186 * 17 = mul-le-mul h m in
+    omega arith
+
+module _ (src keys targets : List ℕ) (from to rounding range : ℕ) (work d : List ℕ) (ask : CallIn src from to work d) (x y : KindRow) (ex : x ≡ rowOf (kindOf from)) (ey : y ≡ rowOf (kindOf to)) where
+  -- the elements and the destination's bytes, as the program has them
+  abbrev n : ℕ
+  n = length src / x .bytes
+
+  abbrev size : ℕ
+  size = n * y .bytes
+
+  n-most : n ≤ 8186
+  n-most = le-trans (div-le-self (length src) (x .bytes)) (ask .most)
+
+  pub size-most : size ≤ 65488
+  size-most = destination-most n (y .bytes) n-most (row-most to (ask .to-listed) y ey)
+
+  pub size-within : size ≤ length work
+  size-within = le-trans size-most (ask .work-room)
+
+  pub size-lent : size ≡ length (take size work)
+  size-lent = sym (length-take-le size work size-within)
+
+  abbrev I : Inputs
+  I = inputs src (take size work) keys targets from to rounding range
+
+  module _ (r : Answer) (b : List ℕ) (done : Contract I r b) (kept : length b ≡ length (take size work)) where
+    abbrev lent : List ℕ
+    lent = take size (b ++ drop size work)
+
+    back : lent ≡ b
+    back = take-at b (drop size work) size (kept ∙ sym size-lent)
+
+    pub size-back : size ≤ length (b ++ drop size work)
+    size-back = omega (arith, length-append b (drop size work), kept, size-lent)
+
+    pub size-relent : size ≡ length lent
+    size-relent = size-lent ∙ sym kept ∙ sym (ap length back)
+
+    pub report-asks : ReportIn d lent r n (y .bytes)
+    report-asks = record {
+      width = row-listed to (ask .to-listed) y ey;
+      few = omega (arith, n-most);
+      position = subst (λ (a : Answer). positionOf a ≤ n) (sym (done .answer)) (subst (λ (z : ℕ). positionOf (answerOf I) ≤ length src / z) (sym (row-width (kindOf from) x ex)) (position-counted I));
+      whole = le-of-eq size-relent;
+      room = le-trans (lines-most n (y .bytes) n-most (row-most to (ask .to-listed) y ey)) (ask .room);
+    }
+
+    same-size : size ≡ length src / width (kindOf from) * width (kindOf to)
+    same-size = ap₂ (λ (p q : ℕ). length src / p * q) (row-width (kindOf from) x ex) (row-width (kindOf to) y ey)
+
+    reported : report r n (y .bytes) lent ≡ reportOf (chunkOf src keys targets from to rounding range)
+    reported =
+        ap (λ (l : List ℕ). report r n (y .bytes) l) (back ∙ done .bytes)
+        ∙ ap (λ (a : Answer). report a n (y .bytes) (destinationOf I)) (done .answer)
+        ∙ ap₂ (λ (p q : ℕ). report (answerOf I) (length src / p) q (destinationOf I)) (row-width (kindOf from) x ex) (row-width (kindOf to) y ey)
+        ∙ same-report src (take size work) (replicate (length src / width (kindOf from) * width (kindOf to)) 0) keys targets from to rounding range (sym size-lent ∙ same-size ∙ sym (length-replicate (length src / width (kindOf from) * width (kindOf to)) 0))
+
+    pub call-reported : (q : ℕ) (d′ : List ℕ) → Wrote d 0 (report r n (y .bytes) lent) q d′ → Wrote d 0 (reportOf (chunkOf src keys targets from to rounding range)) q d′
+    call-reported q d′ w = subst (λ (z : List ℕ). Wrote d 0 z q d′) reported w

@@ -1,0 +1,120 @@
+-- The listing's ways out, each by the checks that led there, and where the parts of an input start.
+-- Assumes nothing.
+use mathlib.Core.Path.{_≡_, refl, sym, ap, ap₂, subst, _∙_}
+use mathlib.Core.Logic.{inl, inr}
+use mathlib.Core.Bool.{true, false}
+use mathlib.Core.List.{List}
+use Prim.Native.Nat.{ℕ, _+_, _-_, _*_, _^_, _≤_, _<_}
+use native.Mathlib.Nat.{mul-le-mul}
+use native.Mathlib.Omega.{arith}
+use lib.Dec.{leb}
+use lib.ListN.{length, getD, take, drop, length-drop}
+use borrow.Author.Tests.{lt-ltb, le-ltb, le-leb, lt-leb}
+use borrow.Rule.Slice.PartAt.{part-to-end}
+use Rattle.bytes_le.specs.Bytes.{Place}
+use Rattle.kinds.specs.Codes.{kindOf}
+use Rattle.kinds.specs.Row.{rowOf}
+use Rattle.kinds.specs.declared.KindRow.{KindRow}
+use Rattle.mapping.proofs.Codes.{row-width}
+use Rattle.cast_spec.specs.Chunk.{codesListed, width}
+use Rattle.chunk.proofs.Exits.{listed-codes}
+use Rattle.listing.specs.declared.Layout.{Layout}
+use Rattle.listing.specs.Listing.{entries, keysEnd, mapEnd, targets, elements, call, chunkOf, refusedLine, reportOf, listingOf}
+use Rattle.listing.specs.Parts.{HeadIn, CallIn, layoutOf}
+use Rattle.listing.proofs.Calls.{row-most}
+
+-- ---- where the parts start
+module _ (s : List ℕ) (head : HeadIn s) where
+  pub count-place : Place s 4 2
+  count-place = record { width = inr (inl refl); within = head .six }
+
+  module _ (x y : KindRow) (e : ℕ) (ex : x ≡ rowOf (kindOf (getD s 0 0))) (ey : y ≡ rowOf (kindOf (getD s 1 0))) (ee : e ≡ entries s) (small : e < 256 ^ 2) where
+    fits : e ≤ 65536
+    fits = omega arith
+
+    pub keys-small : e * x .bytes ≤ 65536 * 8
+    keys-small = mul-le-mul fits (row-most (getD s 0 0) (head .from) x ex)
+
+    pub targets-small : e * y .bytes ≤ 65536 * 8
+    targets-small = mul-le-mul fits (row-most (getD s 1 0) (head .to) y ey)
+
+    pub laid-out : record { targets = 6 + e * x .bytes; elements = 6 + e * x .bytes + e * y .bytes } ≡ layoutOf s
+    laid-out =
+        ap₂ {C = Layout} (λ (a b : ℕ). record { targets = 6 + e * a; elements = 6 + e * a + e * b }) (row-width (kindOf (getD s 0 0)) x ex) (row-width (kindOf (getD s 1 0)) y ey)
+        ∙ ap {B = Layout} (λ (n : ℕ). record { targets = 6 + n * width (kindOf (getD s 0 0)); elements = 6 + n * width (kindOf (getD s 0 0)) + n * width (kindOf (getD s 1 0)) }) ee
+
+-- ---- the ways out
+module _ (s : List ℕ) where
+  pub short : length s < 6 → refusedLine 1 0 ≡ listingOf s
+  unfolding listingOf
+  short h = sym (simp (lt-ltb (length s) 6 h))
+
+  module _ (six : 6 ≤ length s) where
+    pub unlisted : codesListed (call s) ≡ false → refusedLine 1 0 ≡ listingOf s
+    unfolding listingOf
+    unlisted a = sym (simp (le-ltb (length s) 6 six, a))
+
+    module _ (a : codesListed (call s) ≡ true) where
+      pub head-in : HeadIn s
+      head-in = let c = listed-codes (getD s 0 0) (getD s 1 0) (getD s 2 0) (getD s 3 0) a in record { six = six; from = c .0; to = c .1 }
+
+      module _ (l : Layout) (laid : l ≡ layoutOf s) where
+        ends : l .elements ≡ mapEnd s
+        ends = ap (λ (z : Layout). z .elements) laid
+
+        starts : l .targets ≡ keysEnd s
+        starts = ap (λ (z : Layout). z .targets) laid
+
+        pub six-first : 6 ≤ l .targets
+        six-first = omega (arith, starts)
+
+        pub targets-first : l .targets ≤ l .elements
+        targets-first = omega (arith, starts, ends)
+
+        pub map-past : 8192 < l .elements → refusedLine 2 0 ≡ listingOf s
+        unfolding listingOf
+        map-past h = sym (simp (le-ltb (length s) 6 six, a, lt-leb (mapEnd s) 8192 (subst (λ (z : ℕ). 8192 < z) ends h)))
+
+        module _ (near : l .elements ≤ 8192) where
+          near-leb : leb (mapEnd s) 8192 ≡ true
+          near-leb = le-leb (mapEnd s) 8192 (subst (λ (z : ℕ). z ≤ 8192) ends near)
+
+          pub map-missing : length s < l .elements → refusedLine 2 0 ≡ listingOf s
+          unfolding listingOf
+          map-missing h = sym (simp (le-ltb (length s) 6 six, a, near-leb, lt-leb (mapEnd s) (length s) (subst (λ (z : ℕ). length s < z) ends h)))
+
+          module _ (there : l .elements ≤ length s) where
+            there-leb : leb (mapEnd s) (length s) ≡ true
+            there-leb = le-leb (mapEnd s) (length s) (subst (λ (z : ℕ). z ≤ length s) ends there)
+
+            pub longer : 8192 < length s → refusedLine 3 0 ≡ listingOf s
+            unfolding listingOf
+            longer h = sym (simp (le-ltb (length s) 6 six, a, near-leb, there-leb, lt-leb (length s) 8192 h))
+
+            module _ (most : length s ≤ 8192) where
+              called : reportOf (call s) ≡ listingOf s
+              unfolding listingOf
+              called = sym (simp (le-ltb (length s) 6 six, a, near-leb, there-leb, le-leb (length s) 8192 most))
+
+              pub call-asks : (work out : List ℕ) → 65488 ≤ length work → 139180 ≤ length out → CallIn (take (length s - l .elements) (drop (l .elements) s)) (getD s 0 0) (getD s 1 0) work out
+              call-asks work out h k = record {
+                from-listed = head-in .from;
+                to-listed = head-in .to;
+                most = rw (part-to-end s (l .elements), length-drop) (omega (arith, six-first, targets-first));
+                work-room = h;
+                room = k;
+              }
+
+              -- the parts of the input, as the program cuts them
+              abbrev cut : Layout → List ℕ
+              cut z = reportOf (chunkOf (take (length s - z .elements) (drop (z .elements) s)) (take (z .targets - 6) (drop 6 s)) (take (z .elements - z .targets) (drop (z .targets) s)) (getD s 0 0) (getD s 1 0) (getD s 2 0) (getD s 3 0))
+
+              pub call-listed : cut l ≡ listingOf s
+              call-listed =
+                  ap cut laid
+                  ∙ ap (λ (z : List ℕ). reportOf (chunkOf z (take (keysEnd s - 6) (drop 6 s)) (take (mapEnd s - keysEnd s) (drop (keysEnd s) s)) (getD s 0 0) (getD s 1 0) (getD s 2 0) (getD s 3 0))) (part-to-end s (mapEnd s))
+                  ∙ ap₂ (λ (p q : ℕ). reportOf (chunkOf (elements s) (take p (drop 6 s)) (take q (drop (keysEnd s) s)) (getD s 0 0) (getD s 1 0) (getD s 2 0) (getD s 3 0))) (less 6 (entries s * width (kindOf (getD s 0 0)))) (less (keysEnd s) (entries s * width (kindOf (getD s 1 0))))
+                  ∙ called
+                where
+                  less : (a b : ℕ) → a + b - a ≡ b
+                  less a b = omega arith

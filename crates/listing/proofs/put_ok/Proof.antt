@@ -1,0 +1,45 @@
+-- `listing::put_ok` meets its contract: a word, a number and a line's end, one after the other.
+-- Assumes nothing.
+use denote.Ref.{now}
+use Rattle.listing.proofs.Lines.{ok-room, ok-told}
+use borrow.Author.Needs.{needs}
+use Rattle.listing.proofs.put_ok.Statement.{statement}
+use Rattle.listing.proofs.put_ok.Tie as tie
+
+slice-aggregate-put-text : tie.Need-slice-aggregate-put-text
+slice-aggregate-put-text c = search needs
+
+put-text-requires : tie.Need-put-text-requires
+put-text-requires c κs = search needs
+
+put-decimal-requires : tie.Need-put-decimal-requires
+put-decimal-requires c κs = search needs
+
+put-byte-requires : tie.Need-put-byte-requires
+put-byte-requires c κs =
+    let x = c .before .before .before in
+    let y = c .before .before .before .before .before .before .before in
+    let t = c .before .before .before .before .before .before .before .before .before .before .before in
+    ok-room (now (t .args .out)) (y .put-text .result) (y .put-text .last .0) (t .args .n) (x .put-decimal .result) (x .put-decimal .last .0) (t .pre .0) (t .pre .1) (y .put-text .ensures) (x .put-decimal .ensures)
+
+same-length : tie.Need-same-length
+same-length c = search needs
+
+returns : tie.Need-returns
+returns c =
+    let z = c .before .before in
+    let x = c .before .before .before .before .before .before in
+    let y = c .before .before .before .before .before .before .before .before .before .before in
+    let t = c .before .before .before .before .before .before .before .before .before .before .before .before .before .before in
+    ok-told (now (t .args .out)) (y .put-text .result) (y .put-text .last .0) (t .args .n) (x .put-decimal .result) (x .put-decimal .last .0) (z .put-byte .result) (z .put-byte .last .0) (y .put-text .ensures) (x .put-decimal .ensures) (z .put-byte .ensures)
+
+pub put-ok-spec : {M : Type 1} → statement M
+put-ok-spec =
+    tie.close
+    (tie.spec
+    slice-aggregate-put-text
+    put-text-requires
+    put-decimal-requires
+    put-byte-requires
+    same-length
+    returns)
