@@ -1,4 +1,5 @@
-//! Compares the proved library with the original, section by section. `--quick` runs a subset; `--list FILE` writes the fixed list.
+//! Compares the proved library with the original, section by section. `--quick` takes fewer elements; `--only A,B` takes some sections;
+//! `--list FILE` writes the fixed list and compares nothing.
 use driver::compare::{whole_call, Check, Tally};
 use driver::samples::{biased, edges, Random};
 use driver::{all_settings, put, reference, width, Reference, Settings, KINDS, RANGES, RULES};
@@ -32,6 +33,8 @@ fn spread(n: usize, work: impl Fn(&mut Check, usize) + Sync, each: impl Fn(usize
     });
     total.into_inner().unwrap()
 }
+
+const SECTIONS: [&str; 12] = ["settings", "small", "maps", "malformed", "random", "ieee", "f32-u8", "f32-i32", "f32-i64", "f32-f64", "i32-f32", "u32-f32"];
 
 struct Report {
     total: Tally,
@@ -294,16 +297,31 @@ fn main() {
         return list::write(&args[1]);
     }
     let quick = args.iter().any(|a| a == "--quick");
+    let only = args.iter().position(|a| a == "--only").map(|i| args[i + 1].split(',').map(String::from).collect::<Vec<_>>());
+    if let Some(unknown) = only.iter().flatten().find(|name| !SECTIONS.contains(&name.as_str())) {
+        eprintln!("no section {unknown}; there are {}", SECTIONS.join(", "));
+        std::process::exit(2);
+    }
     let mut report = Report { total: Tally::default(), start: Instant::now() };
-    settings(&mut report);
-    small_kinds(&mut report);
-    maps(&mut report, if quick { 20 } else { 200 });
-    malformed(&mut report, !quick);
-    random(&mut report, if quick { 1 << 13 } else { 1 << 18 }, if quick { 1 << 13 } else { 1 << 17 });
-    second_opinion(&mut report, if quick { 1 << 13 } else { 1 << 18 });
     let step = if quick { 1024 } else { 1 };
-    for (from, to, range) in [(8, 4, 1), (8, 2, 1), (8, 3, 0), (8, 9, 0), (2, 8, 0), (6, 8, 0)] {
-        sweep(&mut report, from, to, range, step);
+    for name in SECTIONS {
+        if only.as_ref().is_some_and(|o| !o.iter().any(|n| n == name)) {
+            continue;
+        }
+        match name {
+            "settings" => settings(&mut report),
+            "small" => small_kinds(&mut report),
+            "maps" => maps(&mut report, if quick { 20 } else { 200 }),
+            "malformed" => malformed(&mut report, !quick),
+            "random" => random(&mut report, if quick { 1 << 13 } else { 1 << 18 }, if quick { 1 << 13 } else { 1 << 17 }),
+            "ieee" => second_opinion(&mut report, if quick { 1 << 13 } else { 1 << 18 }),
+            "f32-u8" => sweep(&mut report, 8, 4, 1, step),
+            "f32-i32" => sweep(&mut report, 8, 2, 1, step),
+            "f32-i64" => sweep(&mut report, 8, 3, 0, step),
+            "f32-f64" => sweep(&mut report, 8, 9, 0, step),
+            "i32-f32" => sweep(&mut report, 2, 8, 0, step),
+            _ => sweep(&mut report, 6, 8, 0, step),
+        }
     }
     let t = &report.total;
     println!(
