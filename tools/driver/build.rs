@@ -3,7 +3,10 @@ use std::env;
 
 fn main() {
     println!("cargo:rerun-if-env-changed=DRIVER_LIBS");
-    for folder in env::var("DRIVER_LIBS").expect("DRIVER_LIBS names the folders of libpolskrea.a and libieee.a").split(':') {
+    for folder in env::var("DRIVER_LIBS")
+        .expect("DRIVER_LIBS names the folders of libpolskrea.a and libieee.a")
+        .split(':')
+    {
         println!("cargo:rustc-link-search=native={folder}");
     }
     println!("cargo:rustc-link-lib=static=polskrea");

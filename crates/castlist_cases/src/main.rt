@@ -25,7 +25,7 @@ fn short() {
     );
 }
 
-// Missing map bytes come before a broken last element.
+// Missing map bytes, a broken last element, and empty chunks.
 fn broken() {
     show(
         b"missing keys\n",
@@ -76,7 +76,7 @@ fn refused() {
     );
 }
 
-// Chunks of integer kinds.
+// Chunks to integer kinds.
 fn converted() {
     show(
         b"2.5 and 300 clamped\n",
@@ -95,7 +95,7 @@ fn converted() {
     show(b"u16 to u16\n", b"\x05\x05\x00\x00\x00\x00\x34\x12\xff\x00");
 }
 
-// Chunks of float kinds.
+// Chunks to float kinds.
 fn to_floats() {
     show(
         b"f64 to f32, 2^-150, nearest-even\n",

@@ -1,4 +1,4 @@
--- Elements going to a float kind: exact casts, an f64 narrowed to f32, and an integer rounded once.
+-- Elements going to a float kind: exact casts, and an f64 narrowed to f32.
 -- Assumes nothing.
 use mathlib.Core.Path.{_≡_, refl, sym, ap, ap₂, _∙_, subst}
 use mathlib.Core.Bool.{Bool}

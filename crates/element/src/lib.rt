@@ -47,7 +47,7 @@ fn past(negative: bool, magnitude: u64, end: u64, bits: u32, range: OutOfRangeMo
     }
 }
 
-// A whole number held to an integer kind's range, given by its sign, its magnitude modulo 2^64, and whether that is 2^64 or more.
+// A whole number held to an integer kind's range, given by its sign, its magnitude modulo 2^64, and whether the magnitude itself is 2^64 or more.
 fn hold(negative: bool, magnitude: u64, far: bool, to: KindRow, range: OutOfRangeMode) -> Fit
     requires { ⌜ IntegerRow to ⌝ }
     ensures { λ r. ⌜ Held negative magnitude far (integerOf to) range r ⌝ }

@@ -1,4 +1,4 @@
-// An f32's or f64's bit pattern taken apart, widened, and moved to the next number up or down.
+// An f32's or f64's bit pattern taken apart, sorted, widened, a NaN narrowed, and the next number up and down.
 ghost use mathlib.Core.Path.{_≡_};
 ghost use Prim.Native.Nat.{_*_, _^_, _<_};
 ghost use Rattle.patterns.specs.Kind.{f32, f64};

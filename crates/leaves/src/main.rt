@@ -1,4 +1,4 @@
-// Each leaf on the samples and on the ends of each kind: a line names the leaf and has what it was given and what it answered, in hexadecimal.
+// The leaves on the samples and on the ends of each kind: a line names the leaf and has what it was given and what it answered, in hexadecimal.
 ghost use mathlib.Core.Path.{_≡_};
 ghost use Prim.Native.Nat.{_<_, _≤_, _+_};
 ghost use lib.ListN.{length};
@@ -34,7 +34,7 @@ fn sign(negative: bool) {
 
 // ---- bytes
 
-// The width bytes of x at a place among others, and what is read there.
+// The eight bytes of x, and what is read of the first one, two, four and eight.
 fn bytes(s: &mut [u8], x: u64)
     requires { ⌜ length (now s) ≡ 8 ⌝ }
     ensures { λ _. ⌜ length (now (s .exit)) ≡ 8 ⌝ }
@@ -116,7 +116,7 @@ fn float_parts() {
 }
 
 fn float_neighbours() {
-    // the zeros, the smallest and the largest numbers of both signs, the infinities, a NaN
+    // f32: the zeros, -2^-149, the largest numbers of both signs, the infinities, a NaN
     neighbours_32(0x00000000);
     neighbours_32(0x80000000);
     neighbours_32(0x80000001);
@@ -125,6 +125,7 @@ fn float_neighbours() {
     neighbours_32(0x7f800000);
     neighbours_32(0xff800000);
     neighbours_32(0x7fc00001);
+    // f64: -2^-1074, the largest number, -infinity, 1
     neighbours_64(0x8000000000000001);
     neighbours_64(0x7fefffffffffffff);
     neighbours_64(0xfff0000000000000);
@@ -198,7 +199,7 @@ fn rounded_32(b: u32) {
 }
 
 fn whole_numbers() {
-    // 2.5, -0.5, 0.49999999999999994, the smallest subnormal, 2^52 - 0.5, 2^52 + 1, the largest number
+    // 2.5, -0.5, 0.49999999999999994, -2^-1074, 2^52 - 0.5, 2^52 + 1, the largest number
     rounded_64(0x4004000000000000);
     rounded_64(0xbfe0000000000000);
     rounded_64(0x3fdfffffffffffff);
@@ -237,7 +238,7 @@ fn narrowed(x: u64)
 fn digits(magnitude: u64, negative: bool, count: u32)
     requires { ⌜ (2 ≤ count) × (count ≤ 53) ⌝ }
 {
-    text(b"round_int_to_precision");
+    text(b"int_to_f64_bits");
     sign(negative);
     number(magnitude, 16);
     number(
@@ -269,7 +270,7 @@ fn digits_kept() {
     narrowed(0x47f0000000000000);
     narrowed(0x3690000000000000);
     narrowed(0x3370000000000000);
-    // 0, 16777217, its negative, 2^64 - 1
+    // 0, 16777217, its negative and 2^64 - 1 to 24 digits; 2^64 - 1 and -2^63 to 53
     digits(0x0000000000000000, false, 24);
     digits(0x0000000001000001, false, 24);
     digits(0x0000000001000001, true, 24);

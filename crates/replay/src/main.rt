@@ -1,7 +1,7 @@
 // Replays the list of the original's answers: converts each case of the file data/list and says in how many the answer or the destination
 // differs. tools/compare --list writes the file; tools/driver/src/list.rs says how a case stands in it.
 ghost use mathlib.Core.Path.{_≡_};
-ghost use Prim.Native.Nat.{_+_, _≤_};
+ghost use Prim.Native.Nat.{_+_, _<_, _≤_};
 ghost use lib.ListN.{length};
 use libc::STDOUT_FILENO;
 
@@ -42,15 +42,29 @@ fn same(kind: u8, a: u64, b: u64) -> bool {
     false
 }
 
+// Bytes that are no whole elements of w bytes are compared one by one.
+fn step_of(length: usize, w: usize) -> usize
+    ensures { λ r. ⌜ 0 < r ⌝ }
+{
+    if w == 0 {
+        return 1;
+    }
+    if length % w == 0 {
+        return w;
+    }
+    1
+}
+
 // Whether two runs of elements of w bytes are the same.
 fn same_elements(kind: u8, w: usize, a: &[u8], b: &[u8]) -> bool {
-    if w == 0 {
+    if a.len() != b.len() {
         return false;
     }
+    let step = step_of(a.len(), w);
     let mut rest = a.len();
-    while w <= rest {
-        rest -= w;
-        if !same(kind, number_at(a, rest, w), number_at(b, rest, w)) {
+    while step <= rest {
+        rest -= step;
+        if !same(kind, number_at(a, rest, step), number_at(b, rest, step)) {
             return false;
         }
     }

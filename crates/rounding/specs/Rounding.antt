@@ -26,7 +26,7 @@ pub record Dropped (m j : ℕ) : Type 0 where
   pub few : j < 64
   pub room : m + 2 ^ j ≤ 2 ^ 64
 
--- the quarter of 1 that a magnitude's bits x stand for, the odd ones for what lies between, where half are the bits of 1/2
+-- how many quarters of 1 a magnitude's bits x stand for, where half are the bits of 1/2; 1 and 3 stand for all that lies between
 abbrev pub quartersOf : ℕ → ℕ → ℕ
 quartersOf x half = cond (eqb x 0) 0 (cond (ltb x half) 1 (cond (eqb x half) 2 3))
 

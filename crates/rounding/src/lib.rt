@@ -32,7 +32,7 @@ pub fn round_shift(m: u64, j: u32, mode: RoundingMode, negative: bool) -> u64
     (m + bias(q, unit - 1, mode, negative)) >> j
 }
 
-// The quarter of 1 that the bits x of a magnitude below 1 stand for, the odd ones for what lies between.
+// How many quarters of 1 the bits x of a magnitude below 1 stand for; 1 and 3 stand for all that lies between.
 fn quarters(x: u64, half: u64) -> u64
     ensures { λ r. ⌜ r ≡ quartersOf x half ⌝ }
 {
@@ -47,7 +47,7 @@ fn quarters(x: u64, half: u64) -> u64
     }
 }
 
-// The bits x below a float's sign rounded to a whole number, where the float has p significant bits and the exponent field of 1 is one.
+// The bits x below a float's sign rounded to a whole number, where the float has p significant bits and the number 1 has the exponent field `one`.
 fn round_magnitude(x: u64, p: u32, one: u64, mode: RoundingMode, negative: bool) -> u64
     requires { ⌜ WholeIn x p one ⌝ }
     ensures { λ r. ⌜ bitsMag p (1076 - (one + p)) r ≡ pickMag (whole 1074) (ruleFor negative mode) (bitsMag p (1076 - (one + p)) x) ⌝ }
@@ -90,7 +90,7 @@ fn at_most_63(j: u64) -> u32
     if j < 63 { j as u32 } else { 63 }
 }
 
-// The bits x below an f64's sign narrowed to a float of drop significant bits less, whose field of zeros begins base fields up.
+// The bits x below an f64's sign narrowed to a float of `drop` significant bits less, whose exponent field 0 is the f64's field `base`.
 fn narrow_magnitude(x: u64, drop: u32, base: u64, mode: RoundingMode, negative: bool) -> u64
     requires { ⌜ NarrowIn x drop base ⌝ }
     ensures { λ r. ⌜ bitsMag (53 - drop) (base + drop) r ≡ pickMag (float (53 - drop) (base + drop)) (ruleFor negative mode) (bitsMag 53 0 x) ⌝ }
@@ -111,7 +111,7 @@ fn narrow_magnitude(x: u64, drop: u32, base: u64, mode: RoundingMode, negative: 
     )
 }
 
-// The bits below the sign of what an f64 of the bits x below its sign is as an f32; those of an infinity or more where it overruns.
+// The bits x below an f64's sign rounded to f32; those of an infinity or more where f32 is overrun.
 pub fn narrow_f32(x: u64, mode: RoundingMode, negative: bool) -> u64
     requires { ⌜ x < 2 ^ 63 ⌝ }
     ensures { λ r. ⌜ bitsMag 24 925 r ≡ pickMag (float 24 925) (ruleFor negative mode) (bitsMag 53 0 x) ⌝ }

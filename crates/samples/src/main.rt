@@ -1,4 +1,4 @@
-// The fourteen samples as bytes through the chunk call: each line is the answer's number, the position of a refusal, and the destination's bytes, which began as aa.
+// The fourteen samples, and a chunk of two elements, as bytes through the chunk call: each line is the answer's number, the position of a refusal, and the destination's bytes, which began as aa.
 ghost use mathlib.Core.Path.{_≡_};
 ghost use Prim.Native.Nat.{_≤_, _+_};
 ghost use lib.ListN.{length};

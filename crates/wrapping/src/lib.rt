@@ -1,4 +1,4 @@
-// Whole numbers reduced to the bits of an integer kind, "two's complement".
+// Whole numbers reduced to the bits of an integer kind, two's complement.
 ghost use mathlib.Core.Path.{_≡_};
 ghost use Prim.Native.Nat.{_<_, _≤_};
 ghost use Rattle.grid.specs.Round.{signed};

@@ -49,7 +49,12 @@ impl Tally {
             9 => element & 0x7fff_ffff_ffff_ffff,
             _ => element,
         };
-        self.keep(Difference { size, element, settings, text });
+        self.keep(Difference {
+            size,
+            element,
+            settings,
+            text,
+        });
     }
 }
 
@@ -85,17 +90,29 @@ impl Check {
         loop {
             let refused = expected.refused.get(next).copied();
             let end = refused.map_or(n, |r| r.words[0] as usize);
-            let want = refused.map_or(Answer::CONVERTED, |r| Answer { number: r.number, words: [r.words[0] - start as u64, r.words[1], r.words[2], r.words[3]] });
+            let want = refused.map_or(Answer::CONVERTED, |r| Answer {
+                number: r.number,
+                words: [r.words[0] - start as u64, r.words[1], r.words[2], r.words[3]],
+            });
             let got = ours(s, &src[start * sw..], &mut dst[start * dw..], keys, targets);
             self.tally.calls += 1;
             if !got.same(&want) {
-                let at = if 5 <= got.number { end.min(start + got.words[0] as usize) } else { end };
+                let at = if 5 <= got.number {
+                    end.min(start + got.words[0] as usize)
+                } else {
+                    end
+                };
                 self.differs(s, src, at, format!("answer {} where the reference has {}", got.text(), want.text()));
             }
             if let Some(i) = first_difference(s.to, &dst[start * dw..end * dw], &expected.stored[start * dw..end * dw]) {
                 let at = start + i;
                 let show = |b: &[u8]| format!("{:#x}", pattern(&b[at * dw..at * dw + dw]));
-                self.differs(s, src, at, format!("stored {} where the reference has {}", show(&dst), show(&expected.stored)));
+                self.differs(
+                    s,
+                    src,
+                    at,
+                    format!("stored {} where the reference has {}", show(&dst), show(&expected.stored)),
+                );
             }
             if refused.is_none() {
                 break;
@@ -103,7 +120,16 @@ impl Check {
             self.tally.refusals += 1;
             let until = if start == 0 { n } else { n.min(end + look) };
             if let Some(i) = dst[end * dw..until * dw].iter().position(|b| *b != MARK) {
-                self.differs(s, src, end, format!("destination changed at byte {} behind a refusal at element {}", end * dw + i, end - start));
+                self.differs(
+                    s,
+                    src,
+                    end,
+                    format!(
+                        "destination changed at byte {} behind a refusal at element {}",
+                        end * dw + i,
+                        end - start
+                    ),
+                );
                 dst[end * dw..].fill(MARK);
             }
             start = end + 1;
@@ -124,13 +150,33 @@ impl Check {
         if 0 < want.number {
             self.tally.refusals += 1;
         }
-        let shape = || format!("{} source, {} destination, {} key, {} target bytes", src.len(), dst.len(), keys.len(), targets.len());
+        let shape = || {
+            format!(
+                "{} source, {} destination, {} key, {} target bytes",
+                src.len(),
+                dst.len(),
+                keys.len(),
+                targets.len()
+            )
+        };
         if !got.same(&want) {
-            self.tally.differs(s, src.len() as u64, format!("{}: answer {} where {} is due", shape(), got.text(), want.text()));
+            self.tally.differs(
+                s,
+                src.len() as u64,
+                format!("{}: answer {} where {} is due", shape(), got.text(), want.text()),
+            );
         }
-        let same = if s.to < 10 && after.len() % width(s.to) == 0 { first_difference(s.to, &got_dst, after).is_none() } else { got_dst == after };
+        let same = if s.to < 10 && after.len() % width(s.to) == 0 {
+            first_difference(s.to, &got_dst, after).is_none()
+        } else {
+            got_dst == after
+        };
         if !same {
-            self.tally.differs(s, src.len() as u64, format!("{}: destination {got_dst:02x?} where {after:02x?} is due", shape()));
+            self.tally.differs(
+                s,
+                src.len() as u64,
+                format!("{}: destination {got_dst:02x?} where {after:02x?} is due", shape()),
+            );
         }
         self.dst = got_dst;
     }
@@ -150,18 +196,27 @@ impl Check {
         while start < patterns.len() {
             let got = ours(s, &src[start * sw..], &mut dst[start * dw..], &[], &[]);
             self.tally.calls += 1;
-            let end = if got.number == 0 { patterns.len() } else { start + got.words[0] as usize };
+            let end = if got.number == 0 {
+                patterns.len()
+            } else {
+                start + got.words[0] as usize
+            };
             for i in start..end {
                 let y = pattern(&dst[i * dw..i * dw + dw]);
                 let same = want[i].is_some_and(|w| w == y || is_nan(s.to, w) && is_nan(s.to, y));
                 if !same {
-                    self.tally.differs(s, patterns[i], format!("stored {y:#x} where IEEE 754 has {:#x?}", want[i]));
+                    self.tally
+                        .differs(s, patterns[i], format!("stored {y:#x} where IEEE 754 has {:#x?}", want[i]));
                 }
             }
             if end < patterns.len() {
                 self.tally.refusals += 1;
                 if got.number != 5 || want[end].is_some() {
-                    self.tally.differs(s, patterns[end], format!("answer {} where IEEE 754 has {:#x?}", got.text(), want[end]));
+                    self.tally.differs(
+                        s,
+                        patterns[end],
+                        format!("answer {} where IEEE 754 has {:#x?}", got.text(), want[end]),
+                    );
                 }
             }
             start = end + 1;
@@ -185,7 +240,10 @@ pub fn checks(s: Settings, src: usize, dst: usize, keys: usize, targets: usize) 
         return plain(3);
     }
     if src / sw != dst / dw {
-        return Some(Answer { number: 4, words: [(src / sw) as u64, (dst / dw) as u64, 0, 0] });
+        return Some(Answer {
+            number: 4,
+            words: [(src / sw) as u64, (dst / dw) as u64, 0, 0],
+        });
     }
     None
 }
@@ -199,7 +257,11 @@ pub fn whole_call(s: Settings, src: &[u8], dst: &[u8], keys: &[u8], targets: &[u
     let mut r = Reference::default();
     reference(s, src, keys, targets, &mut r);
     let answer = r.refused.first().copied().unwrap_or(Answer::CONVERTED);
-    let end = if answer.number == 0 { after.len() } else { answer.words[0] as usize * width(s.to) };
+    let end = if answer.number == 0 {
+        after.len()
+    } else {
+        answer.words[0] as usize * width(s.to)
+    };
     after[..end].copy_from_slice(&r.stored[..end]);
     (answer, after)
 }

@@ -42,18 +42,39 @@ pub fn opinion(s: Settings, patterns: &[u64]) -> Vec<Option<u64>> {
     let rule = s.rounding;
     if !crate::is_float(s.from) {
         if s.from < 4 {
-            let xs: Vec<i64> = patterns.iter().map(|p| if s.from == 2 { i64::from(*p as i32) } else { *p as i64 }).collect();
+            let xs: Vec<i64> = patterns
+                .iter()
+                .map(|p| if s.from == 2 { i64::from(*p as i32) } else { *p as i64 })
+                .collect();
             return match s.to {
-                8 => call!(ieee_i64_to_f32, xs, 0f32, rule).iter().map(|y| Some(u64::from(y.to_bits()))).collect(),
+                8 => call!(ieee_i64_to_f32, xs, 0f32, rule)
+                    .iter()
+                    .map(|y| Some(u64::from(y.to_bits())))
+                    .collect(),
                 _ => call!(ieee_i64_to_f64, xs, 0f64, rule).iter().map(|y| Some(y.to_bits())).collect(),
             };
         }
         return match s.to {
-            8 => call!(ieee_u64_to_f32, patterns, 0f32, rule).iter().map(|y| Some(u64::from(y.to_bits()))).collect(),
-            _ => call!(ieee_u64_to_f64, patterns, 0f64, rule).iter().map(|y| Some(y.to_bits())).collect(),
+            8 => call!(ieee_u64_to_f32, patterns, 0f32, rule)
+                .iter()
+                .map(|y| Some(u64::from(y.to_bits())))
+                .collect(),
+            _ => call!(ieee_u64_to_f64, patterns, 0f64, rule)
+                .iter()
+                .map(|y| Some(y.to_bits()))
+                .collect(),
         };
     }
-    let xs: Vec<f64> = patterns.iter().map(|p| if s.from == 8 { f64::from(f32::from_bits(*p as u32)) } else { f64::from_bits(*p) }).collect();
+    let xs: Vec<f64> = patterns
+        .iter()
+        .map(|p| {
+            if s.from == 8 {
+                f64::from(f32::from_bits(*p as u32))
+            } else {
+                f64::from_bits(*p)
+            }
+        })
+        .collect();
     match s.to {
         // widening and same-kind casts are exact
         9 => xs.iter().map(|x| Some(x.to_bits())).collect(),
@@ -61,11 +82,24 @@ pub fn opinion(s: Settings, patterns: &[u64]) -> Vec<Option<u64>> {
         8 => call!(ieee_f64_to_f32, xs, 0f32, rule)
             .iter()
             .zip(&xs)
-            .map(|(y, x)| Some(u64::from(if x.abs() < 2f64.powi(128) || x.is_nan() { *y } else { f32::INFINITY.copysign(*x as f32) }.to_bits())))
+            .map(|(y, x)| {
+                Some(u64::from(
+                    if x.abs() < 2f64.powi(128) || x.is_nan() {
+                        *y
+                    } else {
+                        f32::INFINITY.copysign(*x as f32)
+                    }
+                    .to_bits(),
+                ))
+            })
             .collect(),
         _ => {
             let (lo, hi) = whole_ends(s.to);
-            let mask = if crate::width(s.to) == 8 { u64::MAX } else { (1 << (crate::width(s.to) * 8)) - 1 };
+            let mask = if crate::width(s.to) == 8 {
+                u64::MAX
+            } else {
+                (1 << (crate::width(s.to) * 8)) - 1
+            };
             call!(ieee_f64_to_whole, xs, 0f64, rule)
                 .iter()
                 .map(|y| {

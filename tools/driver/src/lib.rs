@@ -28,7 +28,13 @@ extern "C" {
 }
 
 pub const KINDS: [&str; 10] = ["i8", "i16", "i32", "i64", "u8", "u16", "u32", "u64", "f32", "f64"];
-pub const RULES: [&str; 5] = ["nearest-even", "towards-zero", "towards-positive", "towards-negative", "nearest-away"];
+pub const RULES: [&str; 5] = [
+    "nearest-even",
+    "towards-zero",
+    "towards-positive",
+    "towards-negative",
+    "nearest-away",
+];
 pub const RANGES: [&str; 3] = ["none", "clamp", "wrap"];
 
 /// The bytes of an element of a listed kind.
@@ -51,7 +57,13 @@ pub struct Settings {
 impl Settings {
     pub fn name(&self) -> String {
         let pick = |names: &[&str], code: u8| names.get(code as usize).map_or(format!("code {code}"), |s| s.to_string());
-        format!("{} to {}, {}, {}", pick(&KINDS, self.from), pick(&KINDS, self.to), pick(&RULES, self.rounding), pick(&RANGES, self.range))
+        format!(
+            "{} to {}, {}, {}",
+            pick(&KINDS, self.from),
+            pick(&KINDS, self.to),
+            pick(&RULES, self.rounding),
+            pick(&RANGES, self.range)
+        )
     }
 }
 
@@ -191,19 +203,34 @@ pub struct Reference {
 fn refusal(position: usize, error: CastError) -> Answer {
     let at = position as u64;
     match error {
-        CastError::NanOrInf { value } => Answer { number: 5, words: [at, value.to_bits(), 0, 0] },
+        CastError::NanOrInf { value } => Answer {
+            number: 5,
+            words: [at, value.to_bits(), 0, 0],
+        },
         CastError::OutOfRange { value, lo, hi } => {
             let lo = i64::try_from(lo).expect("a lowest end fits i64") as u64;
             let hi = u64::try_from(hi).expect("a highest end fits u64");
-            Answer { number: 6, words: [at, value.to_bits(), lo, hi] }
+            Answer {
+                number: 6,
+                words: [at, value.to_bits(), lo, hi],
+            }
         }
-        CastError::FloatOutOfRange { value, lo, hi } => Answer { number: 7, words: [at, value.to_bits(), lo.to_bits(), hi.to_bits()] },
+        CastError::FloatOutOfRange { value, lo, hi } => Answer {
+            number: 7,
+            words: [at, value.to_bits(), lo.to_bits(), hi.to_bits()],
+        },
         CastError::LengthMismatch { .. } => unreachable!("an element function compares no lengths"),
     }
 }
 
 pub fn entries<S: Element, D: Element>(keys: &[u8], targets: &[u8]) -> Vec<MapEntry<S, D>> {
-    keys.chunks_exact(S::SIZE).zip(targets.chunks_exact(D::SIZE)).map(|(k, t)| MapEntry { src: S::read(k), tgt: D::read(t) }).collect()
+    keys.chunks_exact(S::SIZE)
+        .zip(targets.chunks_exact(D::SIZE))
+        .map(|(k, t)| MapEntry {
+            src: S::read(k),
+            tgt: D::read(t),
+        })
+        .collect()
 }
 
 macro_rules! route {
@@ -223,7 +250,14 @@ macro_rules! route {
 
 route!(float_int, FloatToIntConfig, convert_float_to_int, CastFloat, CastInt, rounding);
 route!(int_int, IntToIntConfig, convert_int_to_int, CastInt, CastInt);
-route!(float_float, FloatToFloatConfig, convert_float_to_float, CastFloat, CastFloat, rounding);
+route!(
+    float_float,
+    FloatToFloatConfig,
+    convert_float_to_float,
+    CastFloat,
+    CastFloat,
+    rounding
+);
 route!(int_float, IntToFloatConfig, convert_int_to_float, CastInt, CastFloat, rounding);
 
 macro_rules! by_target {
@@ -289,5 +323,7 @@ pub fn first_difference(kind: u8, a: &[u8], b: &[u8]) -> Option<usize> {
         return None;
     }
     let w = width(kind);
-    a.chunks_exact(w).zip(b.chunks_exact(w)).position(|(x, y)| x != y && !(is_nan(kind, pattern(x)) && is_nan(kind, pattern(y))))
+    a.chunks_exact(w)
+        .zip(b.chunks_exact(w))
+        .position(|(x, y)| x != y && !(is_nan(kind, pattern(x)) && is_nan(kind, pattern(y))))
 }

@@ -13,7 +13,19 @@ pub struct Sample {
 /// Patterns that a map is likely to get wrong.
 fn special(kind: u8, r: &mut Random) -> u64 {
     let all: &[u64] = match kind {
-        8 => &[0, 0x8000_0000, 0x7f80_0000, 0xff80_0000, 0x7fc0_0000, 0xffc0_0000, 0x7f80_0001, 0xffff_ffff, 1, 0x8000_0001, 0x3f80_0000],
+        8 => &[
+            0,
+            0x8000_0000,
+            0x7f80_0000,
+            0xff80_0000,
+            0x7fc0_0000,
+            0xffc0_0000,
+            0x7f80_0001,
+            0xffff_ffff,
+            1,
+            0x8000_0001,
+            0x3f80_0000,
+        ],
         9 => &[
             0,
             1 << 63,
@@ -46,11 +58,21 @@ pub fn a_map(s: Settings, edge: &[Vec<u64>], round: usize, r: &mut Random) -> Sa
     let mut keys: Vec<u64> = Vec::new();
     for j in 0..round % 9 {
         let again = 0 < j && r.below(4) == 0;
-        keys.push(if again { keys[r.below(j as u64) as usize] } else { some(s.from, edge, r) });
+        keys.push(if again {
+            keys[r.below(j as u64) as usize]
+        } else {
+            some(s.from, edge, r)
+        });
     }
     let targets = keys.iter().map(|_| some(s.to, edge, r)).collect();
     let elements = (0..1 + r.below(40))
-        .map(|_| if !keys.is_empty() && r.below(2) == 0 { keys[r.below(keys.len() as u64) as usize] } else { some(s.from, edge, r) })
+        .map(|_| {
+            if !keys.is_empty() && r.below(2) == 0 {
+                keys[r.below(keys.len() as u64) as usize]
+            } else {
+                some(s.from, edge, r)
+            }
+        })
         .collect();
     Sample { keys, targets, elements }
 }
@@ -96,7 +118,13 @@ fn telling(kind: u8) -> Vec<u64> {
             }
         }
         if n == 64 {
-            for x in [(1u64 << 40) + (1 << 16), (1 << 40) + (3 << 16), (1 << 60) + (1 << 7), (1 << 60) + (3 << 7), (1 << 60) + (1 << 36)] {
+            for x in [
+                (1u64 << 40) + (1 << 16),
+                (1 << 40) + (3 << 16),
+                (1 << 60) + (1 << 7),
+                (1 << 60) + (3 << 7),
+                (1 << 60) + (1 << 36),
+            ] {
                 all.extend([x - 1, x, x + 1, 0u64.wrapping_sub(x)]);
             }
         }
@@ -107,11 +135,22 @@ fn telling(kind: u8) -> Vec<u64> {
         return all;
     }
     let mut all = Vec::new();
-    let mut xs = vec![0.0, 0.25, 0.5, 0.75, 1.0, 1.5, 2.5, 3.5, 126.5, 127.5, 128.5, 254.5, 255.5, 256.0, 300.0, 32767.5, 65535.5];
+    let mut xs = vec![
+        0.0, 0.25, 0.5, 0.75, 1.0, 1.5, 2.5, 3.5, 126.5, 127.5, 128.5, 254.5, 255.5, 256.0, 300.0, 32767.5, 65535.5,
+    ];
     for e in [31, 32, 53, 63, 64, 100] {
         xs.push(2f64.powi(e));
     }
-    xs.extend([2147483647.5, 4294967295.5, 16777217.0, 2f64.powi(-150), 2f64.powi(-149), 3.0 * 2f64.powi(-150), 2f64.powi(-126), f64::INFINITY]);
+    xs.extend([
+        2147483647.5,
+        4294967295.5,
+        16777217.0,
+        2f64.powi(-150),
+        2f64.powi(-149),
+        3.0 * 2f64.powi(-150),
+        2f64.powi(-126),
+        f64::INFINITY,
+    ]);
     for x in xs {
         for y in [x, -x] {
             if kind == 8 {
@@ -125,8 +164,22 @@ fn telling(kind: u8) -> Vec<u64> {
         all.extend([0x7f7f_ffff, 0xff7f_ffff, 1, 0x3eff_ffff, 0x7fc0_0000, 0xff80_0001]);
     } else {
         let max = f64::from(f32::MAX).to_bits();
-        all.extend([max, max + (1 << 28) - 1, max + (1 << 28), max + (1 << 28) + 1, 2f64.powi(128).to_bits(), 2f64.powi(128).to_bits() | 1 << 63]);
-        all.extend([0x3fdf_ffff_ffff_ffff, 0x43df_ffff_ffff_ffff, 0xc3e0_0000_0000_0001, 0x7fef_ffff_ffff_ffff, 1, (1 << 63) | 1]);
+        all.extend([
+            max,
+            max + (1 << 28) - 1,
+            max + (1 << 28),
+            max + (1 << 28) + 1,
+            2f64.powi(128).to_bits(),
+            2f64.powi(128).to_bits() | 1 << 63,
+        ]);
+        all.extend([
+            0x3fdf_ffff_ffff_ffff,
+            0x43df_ffff_ffff_ffff,
+            0xc3e0_0000_0000_0001,
+            0x7fef_ffff_ffff_ffff,
+            1,
+            (1 << 63) | 1,
+        ]);
         all.extend([0x7ff8 << 48, (0xfff0 << 48) | 1, (-200f64).exp2().to_bits() | 1 << 63]);
     }
     all
@@ -165,7 +218,15 @@ pub fn write(file: &str) {
         if i % 3 == 0 {
             let mut m = a_map(s, &edge, 1 + i / 3, &mut r);
             m.elements.truncate(12);
-            case(&mut out, 3, s, &bytes_of(s.from, &m.elements), m.elements.len() * dw, &bytes_of(s.from, &m.keys), &bytes_of(s.to, &m.targets));
+            case(
+                &mut out,
+                3,
+                s,
+                &bytes_of(s.from, &m.elements),
+                m.elements.len() * dw,
+                &bytes_of(s.from, &m.keys),
+                &bytes_of(s.to, &m.targets),
+            );
         }
     }
     // 4: broken lengths and bad codes
@@ -173,8 +234,23 @@ pub fn write(file: &str) {
     let mark = [0x77u8; 32];
     for from in 0..10 {
         for to in 0..10 {
-            for (a, b, c, d) in [(1, 1, 0, 0), (7, 5, 3, 1), (8, 8, 8, 8), (16, 8, 8, 4), (8, 9, 0, 0), (9, 8, 0, 0), (0, 0, 0, 0), (0, 0, 8, 8), (16, 2, 16, 2)] {
-                let s = Settings { from, to, rounding: r.below(5) as u8, range: r.below(3) as u8 };
+            for (a, b, c, d) in [
+                (1, 1, 0, 0),
+                (7, 5, 3, 1),
+                (8, 8, 8, 8),
+                (16, 8, 8, 4),
+                (8, 9, 0, 0),
+                (9, 8, 0, 0),
+                (0, 0, 0, 0),
+                (0, 0, 8, 8),
+                (16, 2, 16, 2),
+            ] {
+                let s = Settings {
+                    from,
+                    to,
+                    rounding: r.below(5) as u8,
+                    range: r.below(3) as u8,
+                };
                 case(&mut out, 4, s, &zeros[..a], b, &zeros[..c], &mark[..d]);
             }
         }
@@ -182,7 +258,12 @@ pub fn write(file: &str) {
     for code in [3, 5, 10, 11, 128, 255] {
         for place in 0..4 {
             for lengths in [(16, 16), (5, 3), (0, 0)] {
-                let mut s = Settings { from: 9, to: 9, rounding: 0, range: 0 };
+                let mut s = Settings {
+                    from: 9,
+                    to: 9,
+                    rounding: 0,
+                    range: 0,
+                };
                 *[&mut s.from, &mut s.to, &mut s.rounding, &mut s.range][place] = code;
                 case(&mut out, 4, s, &zeros[..lengths.0], lengths.1, &[], &[]);
             }

@@ -162,7 +162,12 @@ pub fn biased(kind: u8, r: &mut Random) -> u64 {
     }
     let (fraction, field) = format(kind);
     let sign = r.below(2) << (n - 1);
-    let near = |y: u64, r: &mut Random| masked(kind, (y & !(1u64 << (n - 1))).wrapping_add(r.below(3)).wrapping_sub(1) & !(1u64 << (n - 1)) | sign);
+    let near = |y: u64, r: &mut Random| {
+        masked(
+            kind,
+            (y & !(1u64 << (n - 1))).wrapping_add(r.below(3)).wrapping_sub(1) & !(1u64 << (n - 1)) | sign,
+        )
+    };
     match shape {
         0 => masked(kind, r.next()),
         // a whole number of a random size, and half of one

@@ -1,17 +1,21 @@
 -- `replay::same_elements` is safe and ends: the measure is the number of bytes that are left.
 -- Assumes nothing.
+use Prim.Native.Nat.{_<_}
 use borrow.Author.Needs.{needs}
 use Rattle.replay.proofs.same_elements.Statement.{statement}
 use Rattle.replay.proofs.same_elements.Tie as tie
 
 abbrev Inv-loop : tie.InvT-loop
-Inv-loop kind w a b rest₀ rest = Unit {0}
+Inv-loop kind w a b step rest₀ rest = 0 < step
 
 abbrev μ-loop : tie.MeasureT-loop
-μ-loop kind w a b rest₀ rest = rest
+μ-loop kind w a b step rest₀ rest = rest
 
 returns : tie.Need-returns Inv-loop μ-loop
 returns c = search needs
+
+step-of-requires : tie.Need-step-of-requires Inv-loop μ-loop
+step-of-requires c κs = search needs
 
 loop-holds : tie.Need-loop-holds Inv-loop μ-loop
 loop-holds c = search needs
@@ -44,6 +48,7 @@ same-elements-spec =
     Inv-loop
     μ-loop
     returns
+    step-of-requires
     loop-holds
     number-at-requires
     number-at-requires-2

@@ -3,8 +3,8 @@
 use driver::samples::Random;
 use driver::{entries, ours, range_of, rounding_of, width, Element, Settings, KINDS, RANGES, RULES};
 use original::{
-    convert_slice_float_to_float, convert_slice_float_to_int, convert_slice_int_to_float, convert_slice_int_to_int, CastFloat, CastInt, CastInto,
-    FloatToFloatConfig, FloatToIntConfig, IntToFloatConfig, IntToIntConfig,
+    convert_slice_float_to_float, convert_slice_float_to_int, convert_slice_int_to_float, convert_slice_int_to_int, CastFloat, CastInt,
+    CastInto, FloatToFloatConfig, FloatToIntConfig, IntToFloatConfig, IntToIntConfig,
 };
 use std::hint::black_box;
 use std::time::Instant;
@@ -56,10 +56,31 @@ macro_rules! original {
     };
 }
 
-original!(float_int, FloatToIntConfig, convert_slice_float_to_int, CastFloat, CastInt, rounding);
+original!(
+    float_int,
+    FloatToIntConfig,
+    convert_slice_float_to_int,
+    CastFloat,
+    CastInt,
+    rounding
+);
 original!(int_int, IntToIntConfig, convert_slice_int_to_int, CastInt, CastInt);
-original!(float_float, FloatToFloatConfig, convert_slice_float_to_float, CastFloat, CastFloat, rounding);
-original!(int_float, IntToFloatConfig, convert_slice_int_to_float, CastInt, CastFloat, rounding);
+original!(
+    float_float,
+    FloatToFloatConfig,
+    convert_slice_float_to_float,
+    CastFloat,
+    CastFloat,
+    rounding
+);
+original!(
+    int_float,
+    IntToFloatConfig,
+    convert_slice_int_to_float,
+    CastInt,
+    CastFloat,
+    rounding
+);
 
 fn proved(row: &Row, repeats: usize) -> f64 {
     let mut dst = vec![0u8; row.src.len() / width(row.s.from) * width(row.s.to)];
@@ -94,19 +115,64 @@ fn rows(n: usize) -> Vec<(Row, Original)> {
         // keys that no element of the data has, so that the whole map is searched each time
         let keys: Vec<u8> = (0..entries).flat_map(|i| (1e6 + i as f64).to_le_bytes()).collect();
         let targets = vec![9u8; entries];
-        out.push((Row { s: Settings { from, to, rounding, range }, src, keys, targets, note }, original));
+        out.push((
+            Row {
+                s: Settings { from, to, rounding, range },
+                src,
+                keys,
+                targets,
+                note,
+            },
+            original,
+        ));
     };
     for rounding in [0, 1, 4] {
-        add(9, 4, rounding, 1, "-100 to 400", fill(n, between(-100.0, 400.0)), 0, float_int::<f64, u8>);
+        add(
+            9,
+            4,
+            rounding,
+            1,
+            "-100 to 400",
+            fill(n, between(-100.0, 400.0)),
+            0,
+            float_int::<f64, u8>,
+        );
     }
     add(9, 2, 0, 1, "-3e9 to 3e9", fill(n, between(-3e9, 3e9)), 0, float_int::<f64, i32>);
     add(9, 2, 0, 0, "-2e9 to 2e9", fill(n, between(-2e9, 2e9)), 0, float_int::<f64, i32>);
-    add(8, 4, 0, 1, "-100 to 400", fill::<f32>(n, |r| (-100.0 + 500.0 * unit(r)) as f32), 0, float_int::<f32, u8>);
+    add(
+        8,
+        4,
+        0,
+        1,
+        "-100 to 400",
+        fill::<f32>(n, |r| (-100.0 + 500.0 * unit(r)) as f32),
+        0,
+        float_int::<f32, u8>,
+    );
     for rounding in [0, 1, 4] {
-        add(9, 8, rounding, 0, "-1e6 to 1e6", fill(n, between(-1e6, 1e6)), 0, float_float::<f64, f32>);
+        add(
+            9,
+            8,
+            rounding,
+            0,
+            "-1e6 to 1e6",
+            fill(n, between(-1e6, 1e6)),
+            0,
+            float_float::<f64, f32>,
+        );
     }
     for rounding in [0, 1, 4] {
-        add(3, 8, rounding, 0, "any i64", fill::<i64>(n, |r| r.next() as i64), 0, int_float::<i64, f32>);
+        add(
+            3,
+            8,
+            rounding,
+            0,
+            "any i64",
+            fill::<i64>(n, |r| r.next() as i64),
+            0,
+            int_float::<i64, f32>,
+        );
     }
     add(9, 3, 0, 2, "in range", fill(n, between(-1e18, 1e18)), 0, float_int::<f64, i64>);
     add(9, 3, 0, 2, "far out", fill(n, between(-1e25, 1e25)), 0, float_int::<f64, i64>);
@@ -125,7 +191,10 @@ fn main() {
     println!("|---|---|---|---|---|---|---|---|");
     for ((small, original), (large, _)) in rows(4096).into_iter().zip(rows(1_000_000)) {
         let s = small.s;
-        print!("| {} to {}, {}, {} | {} |", KINDS[s.from as usize], KINDS[s.to as usize], RANGES[s.range as usize], RULES[s.rounding as usize], small.note);
+        print!(
+            "| {} to {}, {}, {} | {} |",
+            KINDS[s.from as usize], KINDS[s.to as usize], RANGES[s.range as usize], RULES[s.rounding as usize], small.note
+        );
         for row in [&small, &large] {
             let n = row.src.len() as f64 / width(s.from) as f64;
             // both in turn, so that what else the machine does falls on both

@@ -1,5 +1,5 @@
 //! Compares the proved library with the original, section by section. `--quick` takes fewer elements; `--only A,B` takes some sections;
-//! `--list FILE` writes the fixed list and compares nothing.
+//! `--step N` takes one run of patterns in N in the sweeps over 32-bit kinds; `--list FILE` writes the fixed list and compares nothing.
 use driver::compare::{whole_call, Check, Tally};
 use driver::samples::{biased, edges, Random};
 use driver::{all_settings, put, reference, width, Reference, Settings, KINDS, RANGES, RULES};
@@ -34,7 +34,20 @@ fn spread(n: usize, work: impl Fn(&mut Check, usize) + Sync, each: impl Fn(usize
     total.into_inner().unwrap()
 }
 
-const SECTIONS: [&str; 12] = ["settings", "small", "maps", "malformed", "random", "ieee", "f32-u8", "f32-i32", "f32-i64", "f32-f64", "i32-f32", "u32-f32"];
+const SECTIONS: [&str; 12] = [
+    "settings",
+    "small",
+    "maps",
+    "malformed",
+    "random",
+    "ieee",
+    "f32-u8",
+    "f32-i32",
+    "f32-i64",
+    "f32-f64",
+    "i32-f32",
+    "u32-f32",
+];
 
 struct Report {
     total: Tally,
@@ -121,7 +134,11 @@ fn settings(report: &mut Report) {
         },
         |_| {},
     );
-    report.section("all 1,500 settings on every edge of the source kind, refusals early, late and none", since, t);
+    report.section(
+        "all 1,500 settings on every edge of the source kind, refusals early, late and none",
+        since,
+        t,
+    );
 }
 
 /// Every pattern of the 8- and 16-bit kinds, in every setting.
@@ -137,7 +154,11 @@ fn small_kinds(report: &mut Report) {
         },
         |_| {},
     );
-    report.section("every pattern of i8, i16, u8 and u16 to every target, in every rule and range", since, t);
+    report.section(
+        "every pattern of i8, i16, u8 and u16 to every target, in every rule and range",
+        since,
+        t,
+    );
 }
 
 /// Random elements of the 32- and 64-bit kinds in every setting, biased to halfway points and ends.
@@ -172,7 +193,13 @@ fn maps(report: &mut Report, rounds: usize) {
             let mut r = Random(0x2000 + i as u64);
             for round in 0..rounds {
                 let m = list::a_map(s, &edge, round, &mut r);
-                check.chunk(s, &bytes_of(s.from, &m.elements), &bytes_of(s.from, &m.keys), &bytes_of(s.to, &m.targets), 80);
+                check.chunk(
+                    s,
+                    &bytes_of(s.from, &m.elements),
+                    &bytes_of(s.from, &m.keys),
+                    &bytes_of(s.to, &m.targets),
+                    80,
+                );
             }
         },
         |_| {},
@@ -195,7 +222,12 @@ fn malformed(report: &mut Report, deep: bool) {
                 for dst in 0..top {
                     for keys in 0..10 {
                         for targets in 0..10 {
-                            let s = Settings { from, to, rounding: r.below(5) as u8, range: r.below(3) as u8 };
+                            let s = Settings {
+                                from,
+                                to,
+                                rounding: r.below(5) as u8,
+                                range: r.below(3) as u8,
+                            };
                             let (a, b, c, d) = (&zeros[..src], &mark[..dst], &zeros[..keys], &mark[..targets]);
                             let (want, after) = whole_call(s, a, b, c, d);
                             check.call(s, a, b, c, d, want, &after);
@@ -207,7 +239,12 @@ fn malformed(report: &mut Report, deep: bool) {
             for code in 0..=255u8 {
                 for place in 0..4 {
                     for lengths in [(16, 16, 8, 8), (5, 3, 1, 2), (0, 0, 0, 0), (8, 3, 0, 0)] {
-                        let mut s = Settings { from, to, rounding: r.below(5) as u8, range: r.below(3) as u8 };
+                        let mut s = Settings {
+                            from,
+                            to,
+                            rounding: r.below(5) as u8,
+                            range: r.below(3) as u8,
+                        };
                         *[&mut s.from, &mut s.to, &mut s.rounding, &mut s.range][place] = code;
                         let (a, b, c, d) = (&zeros[..lengths.0], &mark[..lengths.1], &zeros[..lengths.2], &mark[..lengths.3]);
                         let (want, after) = whole_call(s, a, b, c, d);
@@ -251,14 +288,30 @@ fn sweep(report: &mut Report, from: u8, to: u8, range: u8, step: u64) {
                 let mut last = said.lock().unwrap();
                 if 20 <= last.elapsed().as_secs() {
                     *last = Instant::now();
-                    println!("  {}: {}% ({:.0} s)", s.name(), k * 100 / blocks, report.start.elapsed().as_secs_f64());
+                    println!(
+                        "  {}: {}% ({:.0} s)",
+                        s.name(),
+                        k * 100 / blocks,
+                        report.start.elapsed().as_secs_f64()
+                    );
                 }
             },
         );
         total.add(t);
     }
-    let what = if step == 1 { "each of the 2^32 patterns" } else { "some patterns" };
-    report.section(&format!("{} to {}, {}: {what} in the five rules", KINDS[from as usize], KINDS[to as usize], RANGES[range as usize]), since, total);
+    let what = if step == 1 {
+        "each of the 2^32 patterns".into()
+    } else {
+        format!("one run of 2^14 patterns in {step}")
+    };
+    report.section(
+        &format!(
+            "{} to {}, {}: {what} in the five rules",
+            KINDS[from as usize], KINDS[to as usize], RANGES[range as usize]
+        ),
+        since,
+        total,
+    );
 }
 
 /// The machine's rounding modes and exact integer arithmetic as a second opinion, on the same samples.
@@ -269,7 +322,12 @@ fn second_opinion(report: &mut Report, count: usize) {
         for to in 0..10 {
             for rounding in 0..5 {
                 if driver::ieee::has_opinion(from, to) {
-                    all.push(Settings { from, to, rounding, range: 1 });
+                    all.push(Settings {
+                        from,
+                        to,
+                        rounding,
+                        range: 1,
+                    });
                 }
             }
         }
@@ -288,7 +346,14 @@ fn second_opinion(report: &mut Report, count: usize) {
         },
         |_| {},
     );
-    report.section(&format!("IEEE 754, a second opinion: fesetround for {}, {}, {}, {}; exact integers for {}", RULES[0], RULES[1], RULES[2], RULES[3], RULES[4]), since, t);
+    report.section(
+        &format!(
+            "IEEE 754, a second opinion: fesetround for {}, {}, {}, {}; exact integers for {}",
+            RULES[0], RULES[1], RULES[2], RULES[3], RULES[4]
+        ),
+        since,
+        t,
+    );
 }
 
 fn main() {
@@ -297,13 +362,21 @@ fn main() {
         return list::write(&args[1]);
     }
     let quick = args.iter().any(|a| a == "--quick");
-    let only = args.iter().position(|a| a == "--only").map(|i| args[i + 1].split(',').map(String::from).collect::<Vec<_>>());
+    let only = args
+        .iter()
+        .position(|a| a == "--only")
+        .map(|i| args[i + 1].split(',').map(String::from).collect::<Vec<_>>());
     if let Some(unknown) = only.iter().flatten().find(|name| !SECTIONS.contains(&name.as_str())) {
         eprintln!("no section {unknown}; there are {}", SECTIONS.join(", "));
         std::process::exit(2);
     }
-    let mut report = Report { total: Tally::default(), start: Instant::now() };
-    let step = if quick { 1024 } else { 1 };
+    let mut report = Report {
+        total: Tally::default(),
+        start: Instant::now(),
+    };
+    let step = args.iter().position(|a| a == "--step").map_or(if quick { 1024 } else { 1 }, |i| {
+        args[i + 1].parse().expect("a step from 1 to 1024")
+    });
     for name in SECTIONS {
         if only.as_ref().is_some_and(|o| !o.iter().any(|n| n == name)) {
             continue;
@@ -313,7 +386,11 @@ fn main() {
             "small" => small_kinds(&mut report),
             "maps" => maps(&mut report, if quick { 20 } else { 200 }),
             "malformed" => malformed(&mut report, !quick),
-            "random" => random(&mut report, if quick { 1 << 13 } else { 1 << 18 }, if quick { 1 << 13 } else { 1 << 17 }),
+            "random" => random(
+                &mut report,
+                if quick { 1 << 13 } else { 1 << 18 },
+                if quick { 1 << 13 } else { 1 << 17 },
+            ),
             "ieee" => second_opinion(&mut report, if quick { 1 << 13 } else { 1 << 18 }),
             "f32-u8" => sweep(&mut report, 8, 4, 1, step),
             "f32-i32" => sweep(&mut report, 8, 2, 1, step),
