@@ -27,7 +27,11 @@ patternAt w s i = fromLe (take w (drop (i * w) s))
 abbrev pub put : List ℕ → ℕ → ℕ → ℕ → List ℕ
 put d a w v = take a d ++ (toLe w v ++ drop (a + w) d)
 
+-- the bytes of an element
+abbrev pub Width : ℕ → Type 0
+Width w = (w ≡ 1) ⊎ ((w ≡ 2) ⊎ ((w ≡ 4) ⊎ (w ≡ 8)))
+
 -- w is the width of a kind, and w bytes at the place a lie within s
 pub record Place (s : List ℕ) (a w : ℕ) : Type 0 where
-  pub width : (w ≡ 1) ⊎ ((w ≡ 2) ⊎ ((w ≡ 4) ⊎ (w ≡ 8)))
+  pub width : Width w
   pub within : a + w ≤ length s

@@ -2,7 +2,7 @@
 -- Assumes nothing.
 use mathlib.Core.Path.{_≡_, refl, sym, ap, _∙_, ap₂}
 use mathlib.Core.Logic.{⊎-elim}
-use mathlib.Core.Bool.{Bool, true, false, _&&_, not}
+use mathlib.Core.Bool.{Bool, true, false, _&&_}
 use mathlib.Core.List.{List, _++_}
 use Prim.Native.Nat.{ℕ, _/_, _<_, _+_, _*_, _%_, _-_}
 use native.Mathlib.Nat.{add-zero, div-add-mod', le-of-eq, sub-zero, zero-mul}
@@ -134,12 +134,3 @@ module _ (I : Inputs) (a : codesListed I ≡ true) (b : mapWhole I ≡ true) (c 
       ∙ ap (λ (z : ℕ). take z (I .destination) ++ bytesFrom (outcomes (settingsFor s (I .keys) (I .targets)) (sw I) (I .source)) (dw I) 0 (n - 0) (drop z (I .destination))) (zero-mul (dw I))
       ∙ ap (λ (z : ℕ). bytesFrom (outcomes (settingsFor s (I .keys) (I .targets)) (sw I) (I .source)) (dw I) 0 z (I .destination)) (sub-zero n)
       ∙ bytes-are)
-
--- ---- a flag that was turned round
-pub not-true : (t : Bool) → not t ≡ true → t ≡ false
-not-true true e = sym e
-not-true false e = refl
-
-pub not-false : (t : Bool) → not t ≡ false → t ≡ true
-not-false true e = refl
-not-false false e = sym e

@@ -7,7 +7,7 @@ use native.Mathlib.Nat.{one-mul}
 use native.Mathlib.Omega.{arith}
 use lib.Dec.{lit<}
 use lib.Pow.{pow-pos, shl-exact}
-use borrow.Author.Tests.{le-leb, lt-leb, leb-true, leb-false}
+use borrow.Author.Tests.{le-leb, lt-leb, leb-true, leb-false, not-true, not-false}
 use Rattle.grid.specs.Round.{signed}
 use Rattle.grid.proofs.Neighbours.{pow-twice-pred}
 use Rattle.patterns.specs.Kind.{integer, highInt}
@@ -53,14 +53,6 @@ positive-bound true n b h e = rw e (omega (arith, leb-false (2 ^ (n - 1)) b e))
 positive-bound false n b h e = omega arith
 
 -- ---- what a program computes from the sign and the bits of the kind
-not-true : (t : Bool) → not t ≡ true → t ≡ false
-not-true true e = sym e
-not-true false e = refl
-
-not-false : (t : Bool) → not t ≡ false → t ≡ true
-not-false true e = refl
-not-false false e = sym e
-
 module _ (n : ℕ) (some : 0 < n) (most : n ≤ 64) where
   pub half-is : 1 * 2 ^ (n - 1) % 2 ^ 64 ≡ 2 ^ (n - 1)
   half-is = shl-exact 1 (n - 1) 64 (lit< tt) (omega arith) ∙ one-mul (2 ^ (n - 1))

@@ -19,7 +19,8 @@ use Rattle.cast_spec.specs.Demand3.{Contract}
 use Rattle.chunk.proofs.Elements.{listed-width}
 use Rattle.chunk.proofs.Exits.{width-pos}
 use Rattle.listing.specs.Listing.{report, reportOf, chunkOf}
-use Rattle.listing.specs.Parts.{Wrote, Width, ReportIn, CallIn}
+use Rattle.bytes_le.specs.Bytes.{Width}
+use Rattle.listing.specs.Parts.{Wrote, ReportIn, CallIn}
 use Rattle.listing.proofs.Unchanged.{position-counted, same-report}
 
 -- ---- the widths of listed kinds

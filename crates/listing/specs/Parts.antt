@@ -1,11 +1,10 @@
 -- What the parts of the listing write: bytes at a place of a lent buffer, and all else kept.
 -- Assumes nothing.
 use mathlib.Core.Path.{_≡_}
-use mathlib.Core.Logic.{_⊎_}
 use mathlib.Core.List.{List, _++_}
 use Prim.Native.Nat.{ℕ, _+_, _*_, _≤_, _<_}
 use lib.ListN.{length, getD, take, drop}
-use Rattle.bytes_le.specs.Bytes.{Place}
+use Rattle.bytes_le.specs.Bytes.{Place, Width}
 use Rattle.kinds.specs.Answer.{positionOf}
 use Rattle.kinds.specs.declared.Answer.{Answer}
 use Rattle.listing.specs.declared.Layout.{Layout}
@@ -16,10 +15,6 @@ pub record Wrote (d : List ℕ) (a : ℕ) (xs : List ℕ) (r : ℕ) (d′ : List
   pub next : r ≡ a + length xs
   pub within : r ≤ length d
   pub bytes : d′ ≡ take a d ++ (xs ++ drop r d)
-
--- w is the width of a kind
-abbrev pub Width : ℕ → Type 0
-Width w = (w ≡ 1) ⊎ ((w ≡ 2) ⊎ ((w ≡ 4) ⊎ (w ≡ 8)))
 
 -- a line of two digits for each byte and its end fits at the place a of d
 pub record LineIn (d : List ℕ) (a : ℕ) (bytes : List ℕ) (from w : ℕ) : Type 0 where

@@ -15,9 +15,8 @@ use Rattle.grid.proofs.Neighbours.{cut, pow-twice-pred}
 use Rattle.patterns.specs.Float.{bitsMag, infBits}
 use Rattle.patterns.specs.Kind.{binary}
 use Rattle.patterns.specs.Value.{nan, inf, num, floatValue, valueOf}
-use Rattle.patterns.specs.Pattern.{magBits}
 use Rattle.patterns.proofs.Encode.{zero-bits, bits-mono}
-use Rattle.patterns.proofs.Floats.{abs-signed, bits-again}
+use Rattle.patterns.proofs.Floats.{abs-signed, same-bits}
 use Rattle.cast_spec.specs.Element.{matches}
 use Rattle.mapping.proofs.Equal.{equal-numbers, false-if-absurd}
 
@@ -83,12 +82,9 @@ module _ (p w s : ℕ) (two : 2 ≤ p) (some : 0 < w) where
   by-bits {ℓ} : {C : Type ℓ} (x : ℕ) → (x < infBits p w → C) → (x ≡ infBits p w → C) → (infBits p w < x → C) → C
   by-bits x f g h = cut x (infBits p w) f (λ (l : infBits p w ≤ x). cut (infBits p w) x h (λ (k : x ≤ infBits p w). g (omega arith)))
 
-  same-bits : (x k : ℕ) → bitsMag p s x ≡ bitsMag p s k → x ≡ k
-  same-bits x k e = sym (bits-again p w s two some x) ∙ ap (magBits p s) e ∙ bits-again p w s two some k
-
   -- equal numbers have equal bits below the sign, and equal signs where those are not 0
   equal-floats : (a b : Bool) (x k : ℕ) → signed a (bitsMag p s x) ≡ signed b (bitsMag p s k) → x ≡ k
-  equal-floats a b x k e = same-bits x k (sym (abs-signed a (bitsMag p s x)) ∙ ap natAbs e ∙ abs-signed b (bitsMag p s k))
+  equal-floats a b x k e = same-bits p w s two some x k (sym (abs-signed a (bitsMag p s x)) ∙ ap natAbs e ∙ abs-signed b (bitsMag p s k))
 
   equal-signs : (a b : Bool) (x k : ℕ) → 0 < x → signed a (bitsMag p s x) ≡ signed b (bitsMag p s k) → a ≡ b
   equal-signs a b x k h e = sign-only a b (bitsMag p s x) (bitsMag p s k) (omega (arith, zero-bits p s two, bits-mono p s 0 x h)) e

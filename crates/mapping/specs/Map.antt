@@ -1,11 +1,11 @@
 -- The scalar map as a lookup, and what the functions over it ask of their inputs.
 -- Assumes nothing.
 use mathlib.Core.Path.{_≡_}
-use mathlib.Core.Logic.{_⊎_}
 use mathlib.Core.Bool.{cond}
 use mathlib.Core.List.{List, [], _∷_}
 use Prim.Native.Nat.{ℕ, _*_, _^_, _≤_, _<_}
 use lib.ListN.{length}
+use Rattle.bytes_le.specs.Bytes.{Width}
 use Rattle.patterns.specs.Kind.{Kind, bits}
 use Rattle.patterns.specs.Value.{Value, valueOf}
 use Rattle.kinds.specs.Codes.{kindOf}
@@ -36,7 +36,7 @@ pub record FloatPatterns (a key code : ℕ) : Type 0 where
 -- "map keys (source kind) and map targets (target kind) are bytes": a pattern b of the source kind, n keys of that kind, and n targets of dw bytes each
 pub record MapBytes (b : ℕ) (keys targets : List ℕ) (n from dw : ℕ) : Type 0 where
   pub fits : b < 2 ^ bits (kindOf from)
-  pub target-width : (dw ≡ 1) ⊎ ((dw ≡ 2) ⊎ ((dw ≡ 4) ⊎ (dw ≡ 8)))
+  pub target-width : Width dw
   pub whole-keys : length keys ≡ n * width (kindOf from)
   pub whole-targets : length targets ≡ n * dw
 

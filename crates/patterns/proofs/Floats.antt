@@ -132,6 +132,10 @@ module _ (p w s : ℕ) (two : 2 ≤ p) (some : 0 < w) where
       let e : bitsMag p s y ≡ bitsMag p s x = mag-back (bitsMag p s x) (on-bits x) in
       cut y x (λ (h : y < x). absurd (omega (arith, bits-mono p s y x h))) (λ (h : x ≤ y). cut x y (λ (l : x < y). absurd (omega (arith, bits-mono p s x y l))) (λ (l : y ≤ x). omega arith))
 
+  -- so equal magnitudes have equal bits
+  pub same-bits : (x y : ℕ) → bitsMag p s x ≡ bitsMag p s y → x ≡ y
+  same-bits x y e = sym (bits-again x) ∙ ap (magBits p s) e ∙ bits-again y
+
   pub signed-again : (b : ℕ) → b < 2 ^ (w + p) → withSign (w + p) (negative (binary p w s) b) (b % 2 ^ (w + p - 1)) ≡ b
   signed-again b h = cut b (2 ^ (w + p - 1))
       (λ (l : b < 2 ^ (w + p - 1)). ap₂ (withSign (w + p)) (lt-leb (2 ^ (w + p - 1)) b l) (mod-eq-of-lt l))

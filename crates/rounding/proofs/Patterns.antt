@@ -12,7 +12,7 @@ use lib.Pow.{pow-pos}
 use borrow.Author.Tests.{ltb-false, leb-false, leb-true}
 use Rattle.grid.proofs.Kept.{pick-signed}
 use Rattle.patterns.proofs.Encode.{bits-mono, bits-mono-le}
-use Rattle.patterns.proofs.Floats.{bits-again, inf-lt, abs-signed, inf-pos}
+use Rattle.patterns.proofs.Floats.{bits-again, same-bits, inf-lt, abs-signed, inf-pos}
 use Rattle.rounding.proofs.Whole.{whole-already}
 use Rattle.grid.specs.declared.RoundingMode.{RoundingMode}
 use Rattle.patterns.specs.Kind.{binary}
@@ -56,12 +56,9 @@ module _ (p w s one : ℕ) (L : Layout p w s one) (r : RoundingMode) where
       below-inf : (a b h : ℕ) → a ≡ suc b → 0 < h → b * h ≤ a * h - 1
       below-inf a b h e k = subst (λ (z : ℕ). b * h ≤ z * h - 1) (sym e) (omega arith)
 
-  same-bits : (a b : ℕ) → bitsMag p s a ≡ bitsMag p s b → a ≡ b
-  same-bits a b e = sym (bits-again p w s (L .two) (L .some) a) ∙ ap (magBits p s) e ∙ bits-again p w s (L .two) (L .some) b
-
   module _ (x R : ℕ) (small : x < 2 ^ (w + p - 1)) (is : bitsMag p s R ≡ pickMag (whole 1074) r (bitsMag p s x)) where
     pub stays : infBits p w ≤ x → R ≡ x
-    stays h = same-bits R x (is ∙ already-whole x (omega arith))
+    stays h = same-bits p w s (L .two) (L .some) R x (is ∙ already-whole x (omega arith))
 
     pub stays-finite : x < infBits p w → R < infBits p w
     stays-finite h = cut R (infBits p w) (λ l. l)

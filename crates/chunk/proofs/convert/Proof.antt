@@ -12,8 +12,9 @@ use Rattle.cast_spec.specs.Chunk.{Inputs, inputs, codesListed, mapWhole, bytesW
 use Rattle.cast_spec.specs.Demand3.{Contract}
 use Rattle.chunk.specs.Run.{settingsFor, settingsBy, RunIn, Ran}
 use Rattle.chunk.specs.declared.Settings.{Settings}
-use Rattle.chunk.proofs.Exits.{width-pos, listed-codes, unknown, broken-map, broken-element, mismatch, run-asks, run-whole, not-true, not-false}
+use Rattle.chunk.proofs.Exits.{width-pos, listed-codes, unknown, broken-map, broken-element, mismatch, run-asks, run-whole}
 use borrow.Author.Needs.{needs}
+use borrow.Author.Tests.{not-true, not-false}
 use Rattle.chunk.proofs.convert.Statement.{statement}
 use Rattle.chunk.proofs.convert.Tie as tie
 
