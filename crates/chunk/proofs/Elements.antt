@@ -3,7 +3,7 @@
 use mathlib.Core.Path.{_≡_, refl, sym, ap, subst, _∙_}
 use mathlib.Core.Logic.{⊎-elim}
 use mathlib.Core.List.{List, [], _∷_}
-use Prim.Native.Nat.{ℕ, _+_, _*_, _^_, _≤_, _<_}
+use Prim.Native.Nat.{ℕ, _+_, _^_, _≤_, _<_}
 use native.Mathlib.Nat.{le-of-eq, lt-of-lt-of-le}
 use native.Mathlib.Omega.{arith}
 use lib.ListN.{length}
@@ -48,16 +48,14 @@ module _ (s : Settings) (keys targets : List ℕ) (ready : Ready s keys targets)
 
   -- ---- the map
   module _ (b : ℕ) (small : b < 2 ^ bits (kindOf (s .from))) where
-    pub map-bytes : MapBytes b keys targets (s .entries) (s .from) (s .dw)
+    pub map-bytes : MapBytes b keys targets (s .entries) (s .from) (s .sw) (s .dw)
     map-bytes = record {
       fits = small;
+      key-width = ready .source;
       target-width = subst Width (sym (ready .target)) (listed-width (s .to) (ready .to));
-      whole-keys = ready .keys-whole ∙ ap (λ (w : ℕ). s .entries * w) (ready .source);
+      whole-keys = ready .keys-whole;
       whole-targets = ready .targets-whole;
     }
-
-    pub looked-up : (r : Lookup) → r ≡ lookupOf (kindOf (s .from)) (valueOf (kindOf (s .from)) b) (entriesFrom (width (kindOf (s .from))) (s .dw) keys targets 0 (s .entries)) → r ≡ lookedUp s keys targets b
-    looked-up r e = e ∙ ap (λ (w : ℕ). lookupOf (kindOf (s .from)) (valueOf (kindOf (s .from)) b) (entriesFrom w (s .dw) keys targets 0 (s .entries))) (sym (ready .source))
 
     pub no-entries : s .entries ≡ 0 → Missing ≡ lookedUp s keys targets b
     no-entries e = ap (λ (n : ℕ). lookupOf (kindOf (s .from)) (valueOf (kindOf (s .from)) b) (entriesFrom (s .sw) (s .dw) keys targets 0 n)) (sym e)

@@ -36,9 +36,9 @@ fn look_up(b: u64, keys: &[u8], targets: &[u8], s: Settings) -> Lookup
         return Lookup::Missing;
     }
     if s.from < 8 {
-        return mapping::apply_scalar_map_int(b, keys, targets, s.entries, s.from, s.dw);
+        return mapping::apply_scalar_map_int(b, keys, targets, s.entries, s.from, s.sw, s.dw);
     }
-    mapping::apply_scalar_map_float(b, keys, targets, s.entries, s.from, s.dw)
+    mapping::apply_scalar_map_float(b, keys, targets, s.entries, s.from, s.sw, s.dw)
 }
 
 // One element's steps: the map, and the conversion of what it leaves.

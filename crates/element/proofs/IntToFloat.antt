@@ -30,7 +30,7 @@ use Rattle.kinds.specs.Codes.{kindOf}
 use Rattle.patterns.proofs.AnyKind.{pattern-back, pick-sign, largest-bits}
 use Rattle.grid.specs.Round.{pick, signed}
 use Rattle.grid.proofs.Picked.{picked}
-use Rattle.element.specs.Convert.{unmapped}
+use Rattle.element.specs.Convert.{HeldByF32, unmapped}
 
 -- a 64-bit magnitude in units of 2^-k
 scaled-le : (m k : ℕ) → m < 2 ^ 64 → m * 2 ^ k ≤ 2 ^ (64 + k)
@@ -93,6 +93,9 @@ module _ (b : ℕ) (t : Bool) (n : ℕ) (h : IntegerPattern b n) (x : Integer) (
 
     sign-y : negative f64 v ≡ x .negative
     sign-y = let f = f32-held y y-on y-held in ap (negative f64) holds-y ∙ pattern-sign 53 11 0 (lit≤ tt) (lit< tt) (x .negative) y (f .0) (f .1)
+
+    pub held-by-f32 : HeldByF32 v
+    held-by-f32 = record { number = y; value = value-y; on = y-on; held = y-held }
 
     pub int-to-f32 : (to : ℕ) → to ≡ 8 → (range : OutOfRangeMode) → unmapped f64 f32 mode None v ≡ unmapped K (kindOf to) mode range b
     unfolding y

@@ -2,7 +2,8 @@
 -- Assumes nothing.
 use mathlib.Core.Path.{_≡_, refl, sym, ap, subst, _∙_, ap₂}
 use mathlib.Core.Bool.{Bool, true, false, cond, _&&_}
-use Prim.Native.Nat.{suc, zero, ℕ, _-_, _*_, _/_, _^_, _≤_, _<_, _%_, _+_}
+use mathlib.Core.Logic.{_⊎_, inl, inr}
+use Prim.Native.Nat.{suc, zero, ℕ, _-_, _*_, _/_, _^_, _≤_, _<_, _%_, _+_, min}
 use native.Mathlib.Nat.{zero-mul, mul-le-mul-right, le-of-mul-le-mul-right, mul-div-cancel, div-eq-of-lt, mul-pos, mul-lt-mul-of-pos-right, lt-of-lt-of-le, mod-eq-of-lt}
 use native.Mathlib.Omega.{arith}
 use lib.Dec.{leb, T}
@@ -16,12 +17,12 @@ use Rattle.patterns.specs.Kind.{highInt, Kind, integer, lowInt, highest, bits, 
 use Rattle.grid.specs.Round.{signed}
 use Rattle.kinds.specs.declared.OutOfRangeMode.the-variants.{Clamp, None, Wrap}
 use Rattle.kinds.specs.declared.OutOfRangeMode.{OutOfRangeMode}
+use Rattle.kinds.specs.declared.Outcome.{Outcome}
 use Rattle.kinds.specs.declared.Outcome.the-variants.{Stored, OutOfRange}
 use Rattle.grid.proofs.Neighbours.{cut, pow-twice-pred}
-use Rattle.element.specs.Convert.{endMag, Held, fitted, pastOf}
+use Rattle.element.specs.Convert.{endMag, Held, fitted}
 use Rattle.cast_spec.specs.Element.{inRange, nearerEnd, beyond, ranged}
 use Rattle.patterns.specs.Pattern.{lowBits, patternOf}
-use Rattle.element.specs.declared.Fit.{Fit}
 use Rattle.kinds.specs.declared.KindRow.{KindRow}
 use Rattle.element.specs.declared.Fit.the-variants.{Pattern, Past}
 use Rattle.wrapping.proofs.Residues.{low-bits-mod}
@@ -149,60 +150,58 @@ end-lt s n neg some most = go s neg (pow-mono {j = 64} most) (pow-twice-pred n s
     go false true a b c = omega arith
     go false false a b c = omega arith
 
-module _ (s : Bool) (n : ℕ) (some : 0 < n) (most : n ≤ 64) (neg : Bool) (range : OutOfRangeMode) (N v : ℕ) where
-  pub held-past : endMag (integer s n) neg < N → fitted (integer s n) v (pastOf n range neg (N % 2 ^ 64) (endMag (integer s n) neg)) ≡ ranged (integer s n) range v neg (signed neg (N * 2 ^ 1074))
-  held-past h = go range
-    where
-      go : (range : OutOfRangeMode) → fitted (integer s n) v (pastOf n range neg (N % 2 ^ 64) (endMag (integer s n) neg)) ≡ ranged (integer s n) range v neg (signed neg (N * 2 ^ 1074))
-      go None = sym (past-none s n neg N v h)
-      go Clamp = sym (past-clamp s n neg N v h)
-      go Wrap = ap Stored (low-bits-mod n neg N most) ∙ sym (past-wrap s n neg N v h)
-
+module _ (s : Bool) (n : ℕ) (some : 0 < n) (most : n ≤ 64) (neg : Bool) (N : ℕ) where
   far-past : leb (2 ^ 64) N ≡ true → endMag (integer s n) neg < N
   far-past e = lt-of-lt-of-le (end-lt s n neg some most) (leb-true (2 ^ 64) N e)
 
   near-is : leb (2 ^ 64) N ≡ false → N % 2 ^ 64 ≡ N
   near-is e = mod-eq-of-lt (leb-false (2 ^ 64) N e)
 
-  module _ (m : ℕ) (far : Bool) where
-    outside : (r : Fit) → r ≡ pastOf n range neg m (endMag (integer s n) neg) → m ≡ N % 2 ^ 64 → endMag (integer s n) neg < N → fitted (integer s n) v r ≡ ranged (integer s n) range v neg (signed neg (N * 2 ^ 1074))
-    outside r e a h = ap (fitted (integer s n) v) (e ∙ ap (λ (z : ℕ). pastOf n range neg z (endMag (integer s n) neg)) a) ∙ held-past h
-
 -- by the target's bits and sign, and its end on that side
-module _ (s : Bool) (n : ℕ) (some : 0 < n) (most : n ≤ 64) (neg : Bool) (m : ℕ) (far : Bool) (range : OutOfRangeMode) (end : ℕ) (ends : end ≡ endMag (integer s n) neg) where
-  past-as : (r : Fit) → r ≡ pastOf n range neg m end → r ≡ pastOf n range neg m (endMag (integer s n) neg)
-  past-as r e = e ∙ ap (pastOf n range neg m) ends
+module _ (s : Bool) (n : ℕ) (some : 0 < n) (most : n ≤ 64) (neg : Bool) (m : ℕ) (far : Bool) (end : ℕ) (ends : end ≡ endMag (integer s n) neg) where
+  -- the pattern of a magnitude of that sign
+  abbrev stored : ℕ → Outcome
+  stored z = Stored (lowBits n (signed neg z))
 
-  pub held-far : far ≡ true → (r : Fit) → r ≡ pastOf n range neg m end → Held neg m far (integer s n) range r
-  held-far f r e = record { is = λ N v a b. outside s n some most neg range N v m far r (past-as r e) a (far-past s n some most neg range N v (sym b ∙ f)) }
+  near-magnitude : (N : ℕ) → far ≡ false → m ≡ N % 2 ^ 64 → far ≡ leb (2 ^ 64) N → m ≡ N
+  near-magnitude N f a b = a ∙ near-is s n some most neg N (sym b ∙ f)
 
-  pub held-near : far ≡ false → end < m → (r : Fit) → r ≡ pastOf n range neg m end → Held neg m far (integer s n) range r
-  held-near f h r e = record { is = λ N v a b. outside s n some most neg range N v m far r (past-as r e) a (omega (arith, near-is s n some most neg range N v (sym b ∙ f))) }
+  pub refused-far : far ≡ true → Held neg m far (integer s n) None Past
+  refused-far f = record { is = λ N v a b. sym (past-none s n neg N v (far-past s n some most neg N (sym b ∙ f))) }
 
-  pub held-in : far ≡ false → m ≤ end → (r : ℕ) → r ≡ lowBits n (signed neg m) → Held neg m far (integer s n) range (Pattern r)
-  held-in f h r e = record {
-    is = λ N v a b.
-        let c : m ≡ N = a ∙ near-is s n some most neg range N v (sym b ∙ f) in
-        ap Stored (e ∙ ap (λ (z : ℕ). lowBits n (signed neg z)) c) ∙ sym (fits-in s n neg N range v (omega arith));
+  pub refused-near : far ≡ false → end < m → Held neg m far (integer s n) None Past
+  refused-near f h = record { is = λ N v a b. sym (past-none s n neg N v (omega (arith, near-magnitude N f a b))) }
+
+  pub held-in : far ≡ false → m ≤ end → (range : OutOfRangeMode) (r : ℕ) → r ≡ lowBits n (signed neg m) → Held neg m far (integer s n) range (Pattern r)
+  held-in f h range r e = record { is = λ N v a b. let c = near-magnitude N f a b in ap Stored e ∙ ap stored c ∙ sym (fits-in s n neg N range v (omega arith)) }
+
+  pub clamped : (r : ℕ) → r ≡ lowBits n (signed neg (cond far end (min m end))) → Held neg m far (integer s n) Clamp (Pattern r)
+  clamped r e = record { is = λ N v a b. ap Stored e ∙ go N v far (far-past s n some most neg N) a b (λ f. near-magnitude N f a b) }
+    where
+      go : (N v : ℕ) (t : Bool) → (leb (2 ^ 64) N ≡ true → endMag (integer s n) neg < N) → m ≡ N % 2 ^ 64 → t ≡ leb (2 ^ 64) N → (t ≡ false → m ≡ N) → stored (cond t end (min m end)) ≡ ranged (integer s n) Clamp v neg (signed neg (N * 2 ^ 1074))
+      go N v true p a b c = ap stored ends ∙ sym (past-clamp s n neg N v (p (sym b)))
+      go N v false p a b c = let is = c refl in cut end m
+          (λ (l : end < m). let z : min m end ≡ endMag (integer s n) neg = omega arith in ap stored z ∙ sym (past-clamp s n neg N v (omega arith)))
+          (λ (l : m ≤ end). let z : min m end ≡ N = omega arith in ap stored z ∙ sym (fits-in s n neg N Clamp v (omega arith)))
+
+  pub wrapped : (r : ℕ) → r ≡ lowBits n (signed neg m) → Held neg m far (integer s n) Wrap (Pattern r)
+  wrapped r e = record {
+    is = λ N v a b. ap Stored (e ∙ ap (λ (z : ℕ). lowBits n (signed neg z)) a ∙ low-bits-mod n neg N most) ∙ cut (endMag (integer s n) neg) N
+        (λ (l : endMag (integer s n) neg < N). sym (past-wrap s n neg N v l))
+        (λ (l : N ≤ endMag (integer s n) neg). sym (fits-in s n neg N Wrap v l));
   }
 
 -- ---- the ends by the row
 module _ (row : KindRow) (is : IntegerRow row) where
-  pub end-positive : (neg : Bool) → neg ≡ false → row .highest ≡ endMag (integerOf row) neg
-  unfolding endMag
-  end-positive neg e = is .high ∙ ap (endMag (integerOf row)) (sym e)
-
-  pub end-unsigned : (neg : Bool) → neg ≡ true → row .signed ≡ false → 0 ≡ endMag (integerOf row) neg
-  unfolding endMag
-  end-unsigned neg e f = sym (ap₂ (λ (t u : Bool). endMag (integer t (row .bits)) u) f e)
-
   -- the highest of a signed kind is one less than the lowest in size
   raised : row .signed ≡ true → row .highest + 1 ≡ 2 ^ (row .bits - 1)
   raised f = ap (λ (z : ℕ). z + 1) (is .high ∙ ap (λ (t : Bool). highInt t (row .bits)) f) ∙ omega (arith, pow-pos (row .bits - 1))
 
-  pub end-signed : (neg : Bool) → neg ≡ true → row .signed ≡ true → row .highest + 1 ≡ endMag (integerOf row) neg
+  pub end-is : (neg : Bool) (low r : ℕ) → ((row .signed ≡ true) × (low ≡ row .highest + 1)) ⊎ ((row .signed ≡ false) × (low ≡ 0)) → r ≡ cond neg low (row .highest) → r ≡ endMag (integerOf row) neg
   unfolding endMag
-  end-signed neg e f = raised f ∙ sym (ap₂ (λ (t u : Bool). endMag (integer t (row .bits)) u) f e)
+  end-is false low r w e = e ∙ is .high
+  end-is true low r (inl w) e = e ∙ w .1 ∙ raised (w .0) ∙ ap (λ (t : Bool). cond t (2 ^ (row .bits - 1)) 0) (sym (w .0))
+  end-is true low r (inr w) e = e ∙ w .1 ∙ ap (λ (t : Bool). cond t (2 ^ (row .bits - 1)) 0) (sym (w .0))
 
   pub raised-fits : row .signed ≡ true → row .highest + 1 < 2 ^ 64
   raised-fits f = omega (arith, raised f, pow-mono {i = row .bits - 1} {j = 63} (omega (arith, is .most)))

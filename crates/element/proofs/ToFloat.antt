@@ -13,7 +13,7 @@ use lib.Pow.{pow-pos}
 use lib.Signed.{_≤ℤ_}
 use borrow.Author.Tests.{eq-eqb}
 use Rattle.patterns.specs.Value.{Value, num, inf, nan, negative, valueOf}
-use Rattle.patterns.proofs.Floats.{number-held, signed-again, abs-signed, bits-again, bits-in-range, bits-past-range}
+use Rattle.patterns.proofs.Floats.{finite-parts, number-held, signed-again, abs-signed, bits-again, bits-in-range, bits-past-range}
 use Rattle.floats.proofs.Fields.{is-num, is-inf, is-nan}
 use Rattle.element.proofs.Widened.{by-class, asF64-f64, f32-within-f64}
 use Rattle.patterns.specs.Kind.{InRange, Kind, WellFormed, binary, f32, f64, gridOf, highest, lowest, bits}
@@ -28,12 +28,12 @@ use Rattle.cast_spec.specs.Element.{beyond, converted, ranged, Settings, overru
 use Rattle.patterns.specs.Float.{bitsMag, infBits}
 use Rattle.cast_spec.proofs.Steps.{by-range}
 use Rattle.grid.proofs.Int.{dn-neg, ints, up-neg}
-use Rattle.grid.proofs.Neighbours.{finer}
+use Rattle.grid.proofs.Neighbours.{cut, finer}
 use Rattle.patterns.proofs.AnyKind.{pattern-only, sound}
 use Rattle.grid.specs.Round.{pick, signed, pickMag, ruleFor}
 use Rattle.grid.proofs.Picked.{pick-own}
 use Rattle.kinds.specs.Codes.{kindOf}
-use Rattle.element.specs.Convert.{unmapped, FloatPattern}
+use Rattle.element.specs.Convert.{unmapped, FloatPattern, HeldByF32}
 use Rattle.kinds.specs.declared.OutOfRangeMode.the-variants.{Clamp, None, Wrap}
 use Rattle.kinds.specs.declared.KindRow.{KindRow}
 use Rattle.grid.proofs.Kept.{pick-signed}
@@ -179,6 +179,31 @@ module _ (b : ℕ) (fits : b < 2 ^ 64) (mode : RoundingMode) (range : OutOfRange
         refuses None n = refl
         refuses Clamp n = absurd (n refl)
         refuses Wrap n = refl
+
+-- ---- an f64 with a number of f32: nothing is rounded or overrun
+module _ (b : ℕ) (fits : b < 2 ^ 64) (h : HeldByF32 b) where
+  abbrev sign : Bool
+  sign = negative f64 b
+
+  parts : (b % 2 ^ 63 < infBits 53 11) × (h .number ≡ signed sign (bitsMag 53 0 (b % 2 ^ 63)))
+  parts = finite-parts 53 11 0 (lit≤ tt) (lit< tt) b (h .number) (h .value)
+
+  stored-as : (mode : RoundingMode) (range : OutOfRangeMode) → unmapped f64 f32 mode range b ≡ Stored (patternOf f32 sign (h .number))
+  stored-as mode range = ap (converted (record { from = f64; to = f32; rule = mode; range = range; entries = [] }) b f32) (h .value) ∙ exactly f32 (lit≤ tt, lit< tt) mode range (asF64 f64 b) sign (h .number) (h .on) (h .held)
+
+  module _ (rule : RoundingMode) (r : ℕ) (is : bitsMag 24 925 r ≡ pickMag (float 24 925) (ruleFor sign rule) (bitsMag 53 0 (bitAnd b (2 ^ 63 - 1)))) where
+    own-number : signed sign (bitsMag 24 925 r) ≡ h .number
+    own-number =
+        ap (signed sign) (is ∙ ap (λ (z : ℕ). pickMag (float 24 925) (ruleFor sign rule) (bitsMag 53 0 z)) (and-mask b 63))
+        ∙ sym (pick-signed (float 24 925) (lit≤ tt) rule sign (bitsMag 53 0 (b % 2 ^ 63)))
+        ∙ ap (pick (float 24 925) rule) (sym (parts .1))
+        ∙ pick-own (float 24 925) (lit≤ tt) rule (h .number) (h .on)
+
+    pub no-overrun : r < infBits 24 8
+    no-overrun = cut r (infBits 24 8) (λ (l : r < infBits 24 8). l) (λ (l : infBits 24 8 ≤ r). absurd (bits-past-range 24 8 925 (lit≤ tt) (lit< tt) sign r l (subst (InRange f32) (sym own-number) (h .held))))
+
+    pub narrowed-held : (mode : RoundingMode) (range : OutOfRangeMode) → Stored (b / 2 ^ 63 * 2 ^ 31 % 2 ^ 64 + r) ≡ unmapped f64 f32 mode range b
+    narrowed-held mode range = narrowed-number b fits rule None r (subst (λ (z : ℕ). z < infBits 53 11) (sym (and-mask b 63)) (parts .0)) is no-overrun ∙ stored-as rule None ∙ sym (stored-as mode range)
 
 -- ---- by the codes
 pub same-code : (b from to : ℕ) → FloatPattern b from → from ≡ to → (mode : RoundingMode) (range : OutOfRangeMode) → Stored b ≡ unmapped (kindOf from) (kindOf to) mode range b

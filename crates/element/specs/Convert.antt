@@ -5,14 +5,15 @@ use mathlib.Core.Bool.{Bool, cond}
 use mathlib.Core.List.{[]}
 use Prim.Native.Nat.{ℕ, _-_, _*_, _%_, _^_, _≤_, _<_}
 use lib.Dec.{leb}
+use lib.IntN.{ℤ}
 use Rattle.grid.specs.Round.{signed}
 use Rattle.grid.specs.declared.RoundingMode.{RoundingMode}
-use Rattle.patterns.specs.Kind.{Kind, integer, binary, bits, lowInt, highInt}
-use Rattle.patterns.specs.Value.{valueOf}
+use Rattle.grid.specs.Grid.{OnGrid, float}
+use Rattle.patterns.specs.Kind.{Kind, InRange, integer, binary, f32, f64, bits, lowInt, highInt}
+use Rattle.patterns.specs.Value.{num, valueOf}
 use Rattle.kinds.specs.Codes.{kindOf}
 use Rattle.patterns.specs.Pattern.{lowBits}
 use Rattle.kinds.specs.declared.OutOfRangeMode.{OutOfRangeMode}
-use Rattle.kinds.specs.declared.OutOfRangeMode.the-variants.{None, Clamp, Wrap}
 use Rattle.kinds.specs.declared.Outcome.{Outcome}
 use Rattle.kinds.specs.declared.Outcome.the-variants.{Stored, OutOfRange}
 use Rattle.cast_spec.specs.Element.{ranged, converted}
@@ -30,6 +31,13 @@ pub record FloatPattern (b code : ℕ) : Type 0 where
   pub most : code ≤ 9
   pub fits : b < 2 ^ bits (kindOf code)
 
+-- an f64 whose number is one of f32
+pub record HeldByF32 (b : ℕ) : Type 0 where
+  pub number : ℤ
+  pub value : valueOf f64 b ≡ num number
+  pub on : OnGrid (float 24 925) number
+  pub held : InRange f32 number
+
 -- the outcome of an element that no entry matches
 abbrev pub unmapped : Kind → Kind → RoundingMode → OutOfRangeMode → ℕ → Outcome
 unmapped from to rule range b = converted (record { from = from; to = to; rule = rule; range = range; entries = [] }) b to (valueOf from b)
@@ -38,12 +46,6 @@ unmapped from to rule range b = converted (record { from = from; to = to; rule =
 unfoldable pub endMag : Kind → Bool → ℕ
 endMag (integer s n) neg = cond neg (cond s (2 ^ (n - 1)) 0) (highInt s n)
 endMag (binary p w s) neg = 0
-
--- a whole number of the magnitude m past the range of n bits, whose end on that side has the magnitude e
-abbrev pub pastOf : ℕ → OutOfRangeMode → Bool → ℕ → ℕ → Fit
-pastOf n None neg m e = Past
-pastOf n Clamp neg m e = Pattern (lowBits n (signed neg e))
-pastOf n Wrap neg m e = Pattern (lowBits n (signed neg m))
 
 -- a fit as an outcome, of an element with the f64 value v
 abbrev pub fitted : Kind → ℕ → Fit → Outcome

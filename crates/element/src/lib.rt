@@ -1,15 +1,17 @@
 // One element converted between any two kinds, with no map: the four conversions and the choice among them.
 ghost use mathlib.Core.Path.{_≡_};
-ghost use Prim.Native.Nat.{_<_, _≤_};
+ghost use mathlib.Core.Bool.{cond};
+ghost use Prim.Native.Nat.{_<_, _≤_, min};
 ghost use Rattle.grid.specs.declared.RoundingMode.{RoundingMode};
 ghost use Rattle.patterns.specs.Pattern.{asF64};
 ghost use Rattle.patterns.specs.Kind.{f32, f64};
 ghost use Rattle.kinds.specs.Codes.{kindOf};
 ghost use Rattle.kinds.specs.Row.{rowOf, integerOf, IntegerRow};
 ghost use Rattle.kinds.specs.declared.OutOfRangeMode.{OutOfRangeMode};
+ghost use Rattle.kinds.specs.declared.Outcome.the-variants.{Stored};
 ghost use Rattle.rounding.specs.Rounding.{roundedOf};
 ghost use Rattle.integers.specs.Magnitude.{IntegerPattern};
-ghost use Rattle.element.specs.Convert.{ElementPattern, FloatPattern, endMag, pastOf, fitted, Held, unmapped};
+ghost use Rattle.element.specs.Convert.{ElementPattern, FloatPattern, HeldByF32, endMag, fitted, Held, unmapped};
 use grid::RoundingMode;
 use kinds::KindRow;
 use kinds::OutOfRangeMode;
@@ -26,25 +28,18 @@ fn end_magnitude(to: KindRow, negative: bool) -> u64
     requires { ⌜ IntegerRow to ⌝ }
     ensures { λ r. ⌜ r ≡ endMag (integerOf to) negative ⌝ }
 {
-    if negative {
-        if to.signed {
-            return to.highest + 1;
-        }
-        return 0;
-    }
-    to.highest
+    let lowest = if to.signed { to.highest + 1 } else { 0 };
+    select::choose(negative, to.highest, lowest)
 }
 
-// A whole number past an integer kind's range, whose end on that side has the magnitude `end`.
-fn past(negative: bool, magnitude: u64, end: u64, bits: u32, range: OutOfRangeMode) -> Fit
-    requires { ⌜ (0 < bits) × (bits ≤ 64) ⌝ }
-    ensures { λ r. ⌜ r ≡ pastOf bits range negative magnitude end ⌝ }
+// A magnitude held to the end's, where it is 2^64 or more or given as it is.
+fn clamp(magnitude: u64, far: bool, end: u64) -> u64
+    ensures { λ r. ⌜ r ≡ cond far end (min magnitude end) ⌝ }
 {
-    match range {
-        OutOfRangeMode::None => Fit::Past,
-        OutOfRangeMode::Clamp => Fit::Pattern(wrapping::wrap_magnitude(negative, end, bits)),
-        OutOfRangeMode::Wrap => Fit::Pattern(wrapping::wrap_magnitude(negative, magnitude, bits)),
+    if far {
+        return end;
     }
+    select::least(magnitude, end)
 }
 
 // A whole number held to an integer kind's range, given by its sign, its magnitude modulo 2^64, and whether the magnitude itself is 2^64 or more.
@@ -54,13 +49,22 @@ fn hold(negative: bool, magnitude: u64, far: bool, to: KindRow, range: OutOfRang
 {
     let end = end_magnitude(to, negative);
     let bits = to.bits;
-    if far {
-        return past(negative, magnitude, end, bits, range);
+    match range {
+        OutOfRangeMode::None => {
+            if far {
+                return Fit::Past;
+            }
+            if end < magnitude {
+                return Fit::Past;
+            }
+            Fit::Pattern(wrapping::wrap_magnitude(negative, magnitude, bits))
+        }
+        OutOfRangeMode::Clamp => {
+            let held = clamp(magnitude, far, end);
+            Fit::Pattern(wrapping::wrap_magnitude(negative, held, bits))
+        }
+        OutOfRangeMode::Wrap => Fit::Pattern(wrapping::wrap_magnitude(negative, magnitude, bits)),
     }
-    if end < magnitude {
-        return past(negative, magnitude, end, bits, range);
-    }
-    Fit::Pattern(wrapping::wrap_magnitude(negative, magnitude, bits))
 }
 
 // A float element as an f64.
@@ -164,6 +168,16 @@ fn narrow(b: u64, mode: RoundingMode, range: OutOfRangeMode) -> Outcome
     }
 }
 
+// The f32 of an f64 whose number an f32 holds: nothing is rounded, so that any rule will do.
+fn narrow_held(b: u64) -> u64
+    requires { ⌜ HeldByF32 b ⌝ }
+    ensures { λ r. ⌜ ((mode : RoundingMode) (range : OutOfRangeMode) → Stored r ≡ unmapped f64 f32 mode range b) ⌝ }
+{
+    let magnitude = b & 0x7fff_ffff_ffff_ffff;
+    let negative = 0x8000_0000_0000_0000 <= b;
+    ((b >> 63) << 31) + rounding::narrow_f32(magnitude, RoundingMode::TowardsZero, negative)
+}
+
 // A float to a float kind: to its own kind, and to a wider one, exactly.
 pub fn convert_float_to_float(
     b: u64,
@@ -194,7 +208,7 @@ pub fn convert_int_to_float(b: u64, from: KindRow, to: u8, mode: RoundingMode) -
         return Outcome::Stored(integers::int_to_f64_bits(x.magnitude, x.negative, 53, mode));
     }
     let rounded = integers::int_to_f64_bits(x.magnitude, x.negative, 24, mode);
-    narrow(rounded, mode, OutOfRangeMode::None)
+    Outcome::Stored(narrow_held(rounded))
 }
 
 // An element of any kind to any kind, by their codes and the rows of these, which a caller reads once for many elements.

@@ -1,12 +1,13 @@
 -- The sign and the magnitude of an integer kind's pattern: what a program computes, and that they are those of its number.
 -- Assumes nothing.
 use mathlib.Core.Path.{_≡_, refl, sym, ap, _∙_}
-use mathlib.Core.Bool.{Bool, true, false, not, cond}
-use Prim.Native.Nat.{ℕ, _-_, _*_, _%_, _^_, _≤_, _<_}
+use mathlib.Core.Bool.{Bool, true, false, cond, true≢false}
+use mathlib.Core.Logic.{_⊎_, inl, inr}
+use Prim.Native.Nat.{ℕ, _+_, _-_, _*_, _%_, _^_, _≤_, _<_}
 use native.Mathlib.Nat.{one-mul}
 use native.Mathlib.Omega.{arith}
-use lib.Dec.{lit<}
-use lib.Pow.{pow-pos, shl-exact}
+use lib.Dec.{leb, lit<}
+use lib.Pow.{pow-pos, pow-mono, shl-exact}
 use borrow.Author.Tests.{le-leb, lt-leb, leb-true, leb-false, not-true, not-false}
 use Rattle.grid.specs.Round.{signed}
 use Rattle.grid.proofs.Neighbours.{pow-twice-pred}
@@ -57,16 +58,29 @@ module _ (n : ℕ) (some : 0 < n) (most : n ≤ 64) where
   pub half-is : 1 * 2 ^ (n - 1) % 2 ^ 64 ≡ 2 ^ (n - 1)
   half-is = shl-exact 1 (n - 1) 64 (lit< tt) (omega arith) ∙ one-mul (2 ^ (n - 1))
 
-  module _ (s : Bool) (b half : ℕ) (h : half ≡ 2 ^ (n - 1)) where
-    pub unsigned-is : not s ≡ true → record { negative = false; magnitude = b } ≡ magnitudeOf (integer s n) b
-    unsigned-is e = sym (ap (λ (t : Bool). magnitudeOf (integer t n) b) (not-true s e) ∙ magnitude-of-unsigned n b)
+  -- a wrapped difference of a number and one that is no greater
+  difference : (d a b : ℕ) → d < 2 ^ 64 → (d + a) % 2 ^ 64 ≡ b → a ≤ b → d ≡ b - a
+  difference d a b h e l = omega arith
 
-    pub low-is : b < half → record { negative = false; magnitude = b } ≡ magnitudeOf (integer s n) b
-    low-is l = sym (magnitude-of-low s n b (omega arith))
+  -- the sign is told by half of 2^n
+  sign-told : (s : Bool) (b half : ℕ) (neg : Bool) → half ≡ 2 ^ (n - 1) → ((s ≡ true) × (neg ≡ leb half b)) ⊎ ((s ≡ false) × (neg ≡ false)) → (neg ≡ negative (integer s n) b) × (neg ≡ true → half ≤ b)
+  sign-told s b half neg h (inl w) = (w .1 ∙ ap (λ (z : ℕ). leb z b) h ∙ ap (λ (t : Bool). negative (integer t n) b) (sym (w .0)), λ (e : neg ≡ true). leb-true half b (sym (w .1) ∙ e))
+  sign-told s b half neg h (inr w) = (w .1 ∙ ap (λ (t : Bool). negative (integer t n) b) (sym (w .0)), λ (e : neg ≡ true). absurd (true≢false (sym e ∙ w .1)))
 
-    pub high-is : not s ≡ false → half ≤ b → record { negative = true; magnitude = half - (b - half) } ≡ magnitudeOf (integer s n) b
-    high-is e l = sym (ap (λ (t : Bool). magnitudeOf (integer t n) b) (not-false s e) ∙ magnitude-of-high n b (omega arith)
-        ∙ ap {B = Integer} (λ (m : ℕ). record { negative = true; magnitude = m }) (omega (arith, pow-twice-pred n some)))
-
-    pub high-fits : b < 2 ^ n → b - half ≤ half
-    high-fits f = omega (arith, pow-twice-pred n some)
+  -- below zero the magnitude is half less what b exceeds it by; both differences are wrapped ones
+  pub magnitude-is : (s : Bool) (b half above opposite : ℕ) (neg : Bool) (m : ℕ) → half ≡ 2 ^ (n - 1) → b < 2 ^ n → above < 2 ^ 64 → opposite < 2 ^ 64 → (above + half) % 2 ^ 64 ≡ b → (opposite + above) % 2 ^ 64 ≡ half
+      → ((s ≡ true) × (neg ≡ leb half b)) ⊎ ((s ≡ false) × (neg ≡ false)) → m ≡ cond neg opposite b → record { negative = neg; magnitude = m } ≡ magnitudeOf (integer s n) b
+  unfolding magnitudeOf
+  magnitude-is s b half above opposite neg m h fits la lo ea eo w em =
+      let told = sign-told s b half neg h w in
+      ap {B = Integer} (λ (z : ℕ). record { negative = neg; magnitude = z }) (em ∙ go neg (told .1))
+      ∙ ap {B = Integer} (λ (t : Bool). record { negative = t; magnitude = cond t (2 ^ n - b) b }) (told .0)
+    where
+      go : (t : Bool) → (t ≡ true → half ≤ b) → cond t opposite b ≡ cond t (2 ^ n - b) b
+      go false f = refl
+      go true f =
+          let reached = f refl in
+          let twice : 2 ^ n ≡ half + half = omega (arith, pow-twice-pred n some) in
+          let word : 2 ^ n ≤ 2 ^ 64 = pow-mono most in
+          let ia = difference above half b la ea reached in
+          difference opposite above half lo eo (omega arith) ∙ omega arith

@@ -1,23 +1,26 @@
 -- The bits of a finite float, `lib.Ieee.toBits`, are the pattern of its number and its sign, at a zero too. Once for both formats.
 -- Assumes nothing.
-use mathlib.Core.Path.{_≡_, refl, sym, ap, ap₂, _∙_}
+use mathlib.Core.Path.{_≡_, refl, sym, ap, ap₂, subst, _∙_}
 use mathlib.Core.Bool.{Bool, true, false, not, cond}
-use Prim.Native.Nat.{ℕ, zero, suc, _+_, _-_, _*_, _/_, _^_, _≤_, max}
+use Prim.Native.Nat.{ℕ, zero, suc, _+_, _-_, _*_, _/_, _%_, _^_, _≤_, _<_, max}
 use native.Mathlib.Nat.{mul-assoc, mul-one, mul-right-comm, mul-div-mul-right, mul-div-cancel, zero-mul}
 use native.Mathlib.Omega.{arith}
 use lib.Dec.{T}
-use lib.Ieee.{Float, nan, inf, fin, Format, binary32, binary64, prec, low, hid, top, up, down, size, isNan, toBits}
+use lib.Ieee.{Float, nan, inf, fin, Format, binary32, binary64, prec, low, hid, top, up, down, size, isNan, neg, fits, toBits}
 use lib.Ieee.Digits.{size-le}
 use lib.Ieee.Exact.{HasValue}
-use lib.Ieee.Fits.{down-pos}
+use lib.Ieee.Bits.{toBits-lt}
+use lib.Ieee.Fits.{down-pos, neg-fits}
 use lib.IntN.{ℤ}
+use mir.Val.{boolByte}
 use lib.Pow.{pow-pos, pow-add}
 use Rattle.grid.specs.Round.{signed}
 use Rattle.grid.proofs.Kept.{size-shift}
-use Rattle.patterns.specs.Kind.{binary}
+use Rattle.patterns.specs.Kind.{binary, f64}
 use Rattle.patterns.specs.Pattern.{withSign, magBits, patternOf}
 use Rattle.patterns.proofs.Floats.{abs-signed}
 use Rattle.patterns.proofs.Ieee.{kindFor}
+use Rattle.integers.proofs.Sums.{negated}
 
 -- the exponent of a format's smallest number, counted from 2^-1074
 abbrev pub spacing : Format → ℕ
@@ -82,13 +85,28 @@ in-units nan s n l h = absurd h
 in-units (inf t) s n l h = absurd h
 in-units (fin t m e) s n l h = (h .0, ap (λ (z : ℕ). z * 2 ^ l) (sym (mul-one (m * up e)) ∙ h .1) ∙ mul-right-comm n (down e) (2 ^ l))
 
-pub toBits-of-whole : (f : Format) (x : Float) (s : Bool) (n : ℕ) → HasValue x s n 1 → toBits f x ≡ patternOf (kindFor f) s (signed s (n * 2 ^ 1074))
+toBits-of-whole : (f : Format) (x : Float) (s : Bool) (n : ℕ) → HasValue x s n 1 → toBits f x ≡ patternOf (kindFor f) s (signed s (n * 2 ^ 1074))
 toBits-of-whole f x s n h =
     toBits-of-units f x s (n * 2 ^ low f) (in-units x s n (low f) h)
     ∙ ap (λ (z : ℕ). patternOf (kindFor f) s (signed s z)) (together n (low f) (spacing f) 1074 (low-spacing f))
   where
     together : (n l d k : ℕ) → l + d ≡ k → n * 2 ^ l * 2 ^ d ≡ n * 2 ^ k
     together n l d k e = mul-assoc n (2 ^ l) (2 ^ d) ∙ ap (λ (z : ℕ). n * z) (sym (pow-add 2 l d) ∙ ap (λ (z : ℕ). 2 ^ z) e)
+
+-- ---- the sign's bit, put over the bits of a number that is not below zero
+module _ (x : Float) (n : ℕ) (h : HasValue x false n 1) where
+  pub signed-bits : (s : Bool) → toBits binary64 x + boolByte s * 2 ^ 63 % 2 ^ 64 ≡ patternOf f64 s (signed s (n * 2 ^ 1074))
+  unfolding patternOf
+  signed-bits s = ap (λ (z : ℕ). z + boolByte s * 2 ^ 63 % 2 ^ 64) (toBits-of-whole binary64 x false n h) ∙ go s (magBits 53 0 (n * 2 ^ 1074)) ∙ ap (λ (z : ℕ). withSign 64 s (magBits 53 0 z)) (sym (abs-signed s (n * 2 ^ 1074)))
+    where
+      go : (s : Bool) (b : ℕ) → b + boolByte s * 2 ^ 63 % 2 ^ 64 ≡ withSign 64 s b
+      go true b = omega arith
+      go false b = omega arith
+
+  -- the bits of the negative number are of 64 bits too
+  pub signed-bits-fit : fits binary64 x ≡ true → (s : Bool) → toBits binary64 x + boolByte s * 2 ^ 63 % 2 ^ 64 < 2 ^ 64
+  signed-bits-fit f false = omega (arith, toBits-lt binary64 x (subst T (sym f) tt))
+  signed-bits-fit f true = subst (λ (z : ℕ). z < 2 ^ 64) (toBits-of-whole binary64 (neg x) true n (negated x n 1 h) ∙ sym (signed-bits true)) (toBits-lt binary64 (neg x) (neg-fits binary64 x (subst T (sym f) tt)))
 
 -- ---- a float with a value is no NaN
 pub valued-no-nan : (x : Float) (s : Bool) (n d : ℕ) → HasValue x s n d → T (not (isNan x))

@@ -6,6 +6,7 @@ use mathlib.Core.Bool.{Bool, true, false, cond}
 use Prim.Native.Nat.{ℕ, _+_, _-_, _*_, _/_, _%_, _^_, _≤_, _<_}
 use native.Mathlib.Nat.{mul-one, one-mul, zero-mul, div-add-mod', mod-lt, mod-eq-of-lt, le-trans}
 use native.Mathlib.Omega.{arith}
+use mir.Val.{boolByte}
 use lib.Ieee.{Float, binary64, size, add, ofInt}
 use lib.Ieee.Digits.{size-lt, size-le}
 use lib.Ieee.Exact.{HasValue}
@@ -70,14 +71,13 @@ module _ (p m : ℕ) (ok : Precision p) where
         (add-exact binary64 q (cond t 1 0) k (omega (arith, shift-lt)) (carried t))
 
     -- what a program adds to the kept part: a unit, or 0
-    added : (t : Bool) (more : ℕ) → ((t ≡ true) × (more ≡ 1 * 2 ^ k % 2 ^ 64)) ⊎ ((t ≡ false) × (more ≡ 0)) → more ≡ cond t 1 0 * 2 ^ k
-    added t more (inl w) = w .1 ∙ unit-is ∙ sym (one-mul (2 ^ k)) ∙ ap (λ (z : Bool). cond z 1 0 * 2 ^ k) (sym (w .0))
-    added t more (inr w) = w .1 ∙ sym (zero-mul (2 ^ k)) ∙ ap (λ (z : Bool). cond z 1 0 * 2 ^ k) (sym (w .0))
+    added : (t : Bool) → boolByte t * 2 ^ k % 2 ^ 64 ≡ cond t 1 0 * 2 ^ k
+    added true = unit-is ∙ sym (one-mul (2 ^ k))
+    added false = ap (λ (z : ℕ). z % 2 ^ 64) (zero-mul (2 ^ k)) ∙ sym (zero-mul (2 ^ k))
 
-    pub many-digits : (r : RoundingMode) (t : Bool) (more : ℕ) (x y : Float) → t ≡ stepsUp r (m / 2 ^ k) (m - m / 2 ^ k * 2 ^ k % 2 ^ 64) (1 * 2 ^ k % 2 ^ 64)
-        → ((t ≡ true) × (more ≡ 1 * 2 ^ k % 2 ^ 64)) ⊎ ((t ≡ false) × (more ≡ 0))
-        → x ≡ ofInt binary64 (pos (m / 2 ^ k * 2 ^ k % 2 ^ 64)) → y ≡ ofInt binary64 (pos more) → HasValue (add binary64 x y) false (pickMag (float p 0) r m) 1
-    many-digits r t more x y e w ex ey =
+    pub many-digits : (r : RoundingMode) (t : Bool) (x y : Float) → t ≡ stepsUp r (m / 2 ^ k) (m - m / 2 ^ k * 2 ^ k % 2 ^ 64) (1 * 2 ^ k % 2 ^ 64)
+        → x ≡ ofInt binary64 (pos (m / 2 ^ k * 2 ^ k % 2 ^ 64)) → y ≡ ofInt binary64 (pos (boolByte t * 2 ^ k % 2 ^ 64)) → HasValue (add binary64 x y) false (pickMag (float p 0) r m) 1
+    many-digits r t x y e ex ey =
         subst (λ (z : Float). HasValue z false (pickMag (float p 0) r m) 1)
-        (sym (ap₂ (add binary64) (ex ∙ ap (λ (z : ℕ). ofInt binary64 (pos z)) kept-is) (ey ∙ ap (λ (z : ℕ). ofInt binary64 (pos z)) (added t more w))))
+        (sym (ap₂ (add binary64) (ex ∙ ap (λ (z : ℕ). ofInt binary64 (pos z)) kept-is) (ey ∙ ap (λ (z : ℕ). ofInt binary64 (pos z)) (added t))))
         (sum-is r t (e ∙ ap₂ (λ (i j : ℕ). stepsUp r (m / 2 ^ k) i j) rest-is unit-is))

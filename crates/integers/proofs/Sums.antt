@@ -78,15 +78,9 @@ add-exact f q p k E h = subst (λ (z : Float). HasValue z false ((q + p) * 2 ^ k
         ∙ ap (λ (z : ℕ). round f false z 1) (sym (add-mul q p (2 ^ k)))
 
 -- ---- the sign, put on by negation
-negated : (x : Float) (n d : ℕ) → HasValue x false n d → HasValue (neg x) true n d
+pub negated : (x : Float) (n d : ℕ) → HasValue x false n d → HasValue (neg x) true n d
 unfolding neg
 negated nan n d h = absurd h
 negated (inf s) n d h = absurd h
 negated (fin true m e) n d h = absurd (true≢false (h .0))
 negated (fin false m e) n d h = (refl, h .1)
-
-pub neg-signed : (x : Float) (s : Bool) (n d : ℕ) → s ≡ true → HasValue x false n d → HasValue (neg x) s n d
-neg-signed x s n d e h = subst (λ (t : Bool). HasValue (neg x) t n d) (sym e) (negated x n d h)
-
-pub same-signed : (x : Float) (s : Bool) (n d : ℕ) → s ≡ false → HasValue x false n d → HasValue x s n d
-same-signed x s n d e h = subst (λ (t : Bool). HasValue x t n d) (sym e) h

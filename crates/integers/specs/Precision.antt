@@ -1,6 +1,6 @@
 -- An integer rounded once to a float's precision: "The kept part plus one unit is added in f64 and is exact, so a carry may reach 2^64."
 -- Assumes nothing.
-use mathlib.Core.Bool.{Bool}
+use mathlib.Core.Bool.{Bool, false}
 use Prim.Native.Nat.{ℕ, _≤_}
 use lib.Dec.{ltb}
 use lib.Ieee.{Float}
@@ -13,9 +13,9 @@ pub record Precision (digits : ℕ) : Type 0 where
   pub least : 2 ≤ digits
   pub most : digits ≤ 53
 
--- the float x is finite, bears the sign, and is n in size: nothing is lost
-pub record Exactly (negative : Bool) (n : ℕ) (x : Float) : Type 0 where
-  pub value : HasValue x negative n 1
+-- the float x is the number n: nothing is lost
+pub record Exactly (n : ℕ) (x : Float) : Type 0 where
+  pub value : HasValue x false n 1
 
 -- q units and a rest are rounded to more than q units
 abbrev pub stepsUp : RoundingMode → ℕ → ℕ → ℕ → Bool

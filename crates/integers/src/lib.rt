@@ -1,6 +1,5 @@
 // An integer pattern's sign and magnitude, and an integer rounded once to a float's precision.
 ghost use mathlib.Core.Path.{_≡_};
-ghost use mathlib.Core.Bool.{false};
 ghost use Prim.Native.Nat.{_*_, _^_, _<_};
 ghost use lib.Ieee.{size};
 ghost use Rattle.grid.specs.Grid.{float};
@@ -23,21 +22,11 @@ pub fn int_magnitude(b: u64, signed: bool, bits: u32) -> Integer
     ensures { λ r. ⌜ r ≡ magnitudeOf (integer signed bits) b ⌝ }
 {
     let half = 1u64 << (bits - 1);
-    if !signed {
-        return Integer {
-            negative: false,
-            magnitude: b,
-        };
-    }
-    if b < half {
-        return Integer {
-            negative: false,
-            magnitude: b,
-        };
-    }
+    let negative = if signed { half <= b } else { false };
+    let opposite = std::num::wrapping_sub_u64(half, std::num::wrapping_sub_u64(b, half));
     Integer {
-        negative: true,
-        magnitude: half - (b - half),
+        negative: negative,
+        magnitude: select::choose(negative, b, opposite),
     }
 }
 
@@ -64,9 +53,14 @@ pub fn rounds_up(mode: RoundingMode, negative: bool, q: u64, rest: u64, unit: u6
 }
 
 // The magnitude rounded to `digits` significant bits: its kept part, and one unit more where the rule says so, added with no rounding.
-fn round_magnitude(magnitude: u64, negative: bool, digits: u32, mode: RoundingMode) -> f64
+pub fn round_int_to_precision(
+    magnitude: u64,
+    negative: bool,
+    digits: u32,
+    mode: RoundingMode,
+) -> f64
     requires { ⌜ Precision digits ⌝ }
-    ensures { λ r. ⌜ Exactly false (pickMag (float digits 0) (ruleFor negative mode) magnitude) r ⌝ }
+    ensures { λ r. ⌜ Exactly (pickMag (float digits 0) (ruleFor negative mode) magnitude) r ⌝ }
 {
     let significant = significant_bits(magnitude);
     if significant <= digits {
@@ -77,28 +71,15 @@ fn round_magnitude(magnitude: u64, negative: bool, digits: u32, mode: RoundingMo
     let kept = q << shift;
     let unit = 1u64 << shift;
     let up = rounds_up(mode, negative, q, magnitude - kept, unit);
-    let more = if up { unit } else { 0 };
+    let more = (up as u64) << shift;
     std::num::nearest_u64_to_f64(kept) + std::num::nearest_u64_to_f64(more)
 }
 
-// The integer rounded once to `digits` significant bits, as a float that holds it exactly. A zero keeps the sign that is given.
-pub fn round_int_to_precision(
-    magnitude: u64,
-    negative: bool,
-    digits: u32,
-    mode: RoundingMode,
-) -> f64
-    requires { ⌜ Precision digits ⌝ }
-    ensures { λ r. ⌜ Exactly negative (pickMag (float digits 0) (ruleFor negative mode) magnitude) r ⌝ }
-{
-    let x = round_magnitude(magnitude, negative, digits, mode);
-    if negative { -x } else { x }
-}
-
-// The f64 pattern of the integer rounded once to `digits` significant bits.
+// The f64 pattern of the integer rounded once to `digits` significant bits. A zero keeps the sign that is given.
 pub fn int_to_f64_bits(magnitude: u64, negative: bool, digits: u32, mode: RoundingMode) -> u64
     requires { ⌜ Precision digits ⌝ }
     ensures { λ r. ⌜ r ≡ patternOf f64 negative (pick (float digits 0) mode (signed negative (magnitude * 2 ^ 1074))) ⌝ }
 {
-    f64::to_bits(round_int_to_precision(magnitude, negative, digits, mode))
+    let x = f64::to_bits(round_int_to_precision(magnitude, negative, digits, mode));
+    x + ((negative as u64) << 63)
 }

@@ -355,7 +355,7 @@ fn float_map(b: u64) {
     let targets = [9, 7, 8];
     text(b"apply_scalar_map_float");
     number(b, 16);
-    looked_up(mapping::apply_scalar_map_float(b, &keys, &targets, 3, 9, 1));
+    looked_up(mapping::apply_scalar_map_float(b, &keys, &targets, 3, 9, 8, 1));
 }
 
 // The eight bytes of x, at a place of d.
@@ -375,7 +375,7 @@ fn integer_map(b: u64)
     let targets = [1, 2, 3];
     text(b"apply_scalar_map_int");
     number(b, 2);
-    looked_up(mapping::apply_scalar_map_int(b, &keys, &targets, 3, 4, 1));
+    looked_up(mapping::apply_scalar_map_int(b, &keys, &targets, 3, 4, 1, 1));
 }
 
 fn maps() {

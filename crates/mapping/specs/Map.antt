@@ -33,20 +33,21 @@ pub record FloatPatterns (a key code : ℕ) : Type 0 where
   pub fits : a < 2 ^ bits (kindOf code)
   pub key-fits : key < 2 ^ bits (kindOf code)
 
--- "map keys (source kind) and map targets (target kind) are bytes": a pattern b of the source kind, n keys of that kind, and n targets of dw bytes each
-pub record MapBytes (b : ℕ) (keys targets : List ℕ) (n from dw : ℕ) : Type 0 where
+-- "map keys (source kind) and map targets (target kind) are bytes": a pattern b of the source kind, n keys of that kind, sw bytes each, and n targets of dw bytes each
+pub record MapBytes (b : ℕ) (keys targets : List ℕ) (n from sw dw : ℕ) : Type 0 where
   pub fits : b < 2 ^ bits (kindOf from)
+  pub key-width : sw ≡ width (kindOf from)
   pub target-width : Width dw
-  pub whole-keys : length keys ≡ n * width (kindOf from)
+  pub whole-keys : length keys ≡ n * sw
   pub whole-targets : length targets ≡ n * dw
 
 -- the source is a float kind
-pub record FloatMap (b : ℕ) (keys targets : List ℕ) (n from dw : ℕ) : Type 0 where
+pub record FloatMap (b : ℕ) (keys targets : List ℕ) (n from sw dw : ℕ) : Type 0 where
   pub float : 8 ≤ from
   pub listed : from < 10
-  pub bytes : MapBytes b keys targets n from dw
+  pub bytes : MapBytes b keys targets n from sw dw
 
 -- the source is an integer kind: "0, 1, 2, 3: i8, i16, i32, i64; 4, 5, 6, 7: u8, u16, u32, u64"
-pub record IntegerMap (b : ℕ) (keys targets : List ℕ) (n from dw : ℕ) : Type 0 where
+pub record IntegerMap (b : ℕ) (keys targets : List ℕ) (n from sw dw : ℕ) : Type 0 where
   pub listed : from < 8
-  pub bytes : MapBytes b keys targets n from dw
+  pub bytes : MapBytes b keys targets n from sw dw

@@ -65,20 +65,19 @@ fn pattern_at(s: &[u8], j: usize, w: usize) -> u64
     bytes_le::read_le(s, j * w, w)
 }
 
-// The target of the first of n entries whose key matches the float b; dw is the bytes of a target.
+// The target of the first of n entries whose key matches the float b; sw and dw are the bytes of a key and of a target.
 pub fn apply_scalar_map_float(
     b: u64,
     keys: &[u8],
     targets: &[u8],
     n: usize,
     from: u8,
+    sw: usize,
     dw: usize,
 ) -> Lookup
-    requires { ⌜ FloatMap b (now keys) (now targets) n from dw ⌝ }
-    ensures { λ r. ⌜ r ≡ lookupOf (kindOf from) (valueOf (kindOf from) b) (entriesFrom (width (kindOf from)) dw (now (keys .entry)) (now (targets .entry)) 0 n) ⌝ }
+    requires { ⌜ FloatMap b (now keys) (now targets) n from sw dw ⌝ }
+    ensures { λ r. ⌜ r ≡ lookupOf (kindOf from) (valueOf (kindOf from) b) (entriesFrom sw dw (now (keys .entry)) (now (targets .entry)) 0 n) ⌝ }
 {
-    let row = kinds::row_of(from);
-    let sw = row.bytes;
     let mut j: usize = 0;
     while j < n {
         let key = pattern_at(keys, j, sw);
@@ -90,20 +89,19 @@ pub fn apply_scalar_map_float(
     Lookup::Missing
 }
 
-// The target of the first of n entries whose key is the integer b; dw is the bytes of a target.
+// The target of the first of n entries whose key is the integer b; sw and dw are the bytes of a key and of a target.
 pub fn apply_scalar_map_int(
     b: u64,
     keys: &[u8],
     targets: &[u8],
     n: usize,
     from: u8,
+    sw: usize,
     dw: usize,
 ) -> Lookup
-    requires { ⌜ IntegerMap b (now keys) (now targets) n from dw ⌝ }
-    ensures { λ r. ⌜ r ≡ lookupOf (kindOf from) (valueOf (kindOf from) b) (entriesFrom (width (kindOf from)) dw (now (keys .entry)) (now (targets .entry)) 0 n) ⌝ }
+    requires { ⌜ IntegerMap b (now keys) (now targets) n from sw dw ⌝ }
+    ensures { λ r. ⌜ r ≡ lookupOf (kindOf from) (valueOf (kindOf from) b) (entriesFrom sw dw (now (keys .entry)) (now (targets .entry)) 0 n) ⌝ }
 {
-    let row = kinds::row_of(from);
-    let sw = row.bytes;
     let mut i: usize = 0;
     while i < n {
         let key = pattern_at(keys, i, sw);

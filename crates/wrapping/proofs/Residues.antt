@@ -1,7 +1,7 @@
 -- The lowest bits of a whole number, from its magnitude and the wrapped difference of 0 and it.
 -- Assumes nothing.
 use mathlib.Core.Path.{_≡_, sym, ap, _∙_}
-use mathlib.Core.Bool.{Bool, true, false}
+use mathlib.Core.Bool.{Bool, true, false, cond}
 use Prim.Native.Nat.{ℕ, zero, suc, _+_, _-_, _/_, _%_, _^_, _≤_, _<_}
 use native.Mathlib.Decide.{decLe}
 use native.Mathlib.Nat.{mod-lt, mod-eq-of-lt, mod-eq-sub-mod, mod-self, add-mod, sub-zero, suc-mod}
@@ -72,11 +72,15 @@ module _ (n : ℕ) (fits : n ≤ 64) where
   masked : (m : ℕ) → bitAnd m ((2 ^ 64 - 1) / 2 ^ (64 - n)) ≡ m % 2 ^ n
   masked m = ap (bitAnd m) (mask n fits) ∙ and-mask m n
 
-  pub wrapped-negative : (w m : ℕ) → (w + m) % 2 ^ 64 ≡ 0 → bitAnd w ((2 ^ 64 - 1) / 2 ^ (64 - n)) ≡ lowBits n (signed true m)
+  wrapped-negative : (w m : ℕ) → (w + m) % 2 ^ 64 ≡ 0 → bitAnd w ((2 ^ 64 - 1) / 2 ^ (64 - n)) ≡ lowBits n (signed true m)
   wrapped-negative w m e = masked w ∙ residue n w m fits e ∙ negative-bits n m
 
-  pub wrapped-positive : (m : ℕ) → bitAnd m ((2 ^ 64 - 1) / 2 ^ (64 - n)) ≡ lowBits n (signed false m)
+  wrapped-positive : (m : ℕ) → bitAnd m ((2 ^ 64 - 1) / 2 ^ (64 - n)) ≡ lowBits n (signed false m)
   wrapped-positive m = masked m
+
+  pub wrapped : (neg : Bool) (w m : ℕ) → (w + m) % 2 ^ 64 ≡ 0 → bitAnd (cond neg w m) ((2 ^ 64 - 1) / 2 ^ (64 - n)) ≡ lowBits n (signed neg m)
+  wrapped true w m e = wrapped-negative w m e
+  wrapped false w m e = wrapped-positive m
 
 -- ---- a magnitude modulo 2^64 has the same lowest bits
 pub low-bits-mod : (n : ℕ) (neg : Bool) (m : ℕ) → n ≤ 64 → lowBits n (signed neg (m % 2 ^ 64)) ≡ lowBits n (signed neg m)

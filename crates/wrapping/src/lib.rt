@@ -53,10 +53,8 @@ pub fn wrap_magnitude(negative: bool, magnitude: u64, bits: u32) -> u64
     ensures { λ r. ⌜ r ≡ lowBits bits (signed negative magnitude) ⌝ }
 {
     let mask = 0xffff_ffff_ffff_ffff >> (64 - bits);
-    if negative {
-        return std::num::wrapping_sub_u64(0, magnitude) & mask;
-    }
-    magnitude & mask
+    let residue = std::num::wrapping_sub_u64(0, magnitude);
+    select::choose(negative, magnitude, residue) & mask
 }
 
 // The lowest bits of the whole part of an f64, however large it is.

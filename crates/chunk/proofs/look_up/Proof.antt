@@ -1,7 +1,7 @@
 -- `chunk::look_up` meets its contract: no entries, and a map of integers or of floats.
 -- Assumes nothing.
 use denote.Ref.{now}
-use Rattle.chunk.proofs.Elements.{map-bytes, looked-up, no-entries}
+use Rattle.chunk.proofs.Elements.{map-bytes, no-entries}
 use Rattle.chunk.proofs.look_up.Statement.{statement}
 use Rattle.chunk.proofs.look_up.Tie as tie
 
@@ -12,13 +12,13 @@ apply-scalar-map-int-requires : tie.Need-apply-scalar-map-int-requires
 apply-scalar-map-int-requires c κs = let t = c .before .before .before .before .before .before in let a = t .args in record { listed = c .if2 .taken; bytes = map-bytes (a .s) (now (a .keys)) (now (a .targets)) (t .pre .ready) (a .b) (t .pre .fits) }
 
 returns-2 : tie.Need-returns-2
-returns-2 c = let t = c .before .before .before .before .before .before .before in let a = t .args in looked-up (a .s) (now (a .keys)) (now (a .targets)) (t .pre .ready) (a .b) (t .pre .fits) (c .apply-scalar-map-int .result) (c .apply-scalar-map-int .ensures)
+returns-2 c = c .apply-scalar-map-int .ensures
 
 apply-scalar-map-float-requires : tie.Need-apply-scalar-map-float-requires
 apply-scalar-map-float-requires c κs = let t = c .before .before .before .before .before .before in let a = t .args in record { float = c .if2 .left; listed = t .pre .ready .from; bytes = map-bytes (a .s) (now (a .keys)) (now (a .targets)) (t .pre .ready) (a .b) (t .pre .fits) }
 
 returns-3 : tie.Need-returns-3
-returns-3 c = let t = c .before .before .before .before .before .before .before in let a = t .args in looked-up (a .s) (now (a .keys)) (now (a .targets)) (t .pre .ready) (a .b) (t .pre .fits) (c .apply-scalar-map-float .result) (c .apply-scalar-map-float .ensures)
+returns-3 c = c .apply-scalar-map-float .ensures
 
 pub look-up-spec : {M : Type 1} → statement M
 look-up-spec =

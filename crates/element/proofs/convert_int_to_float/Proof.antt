@@ -1,7 +1,8 @@
 -- `element::convert_int_to_float` meets its contract: the f64 holds the pick, and narrowing it rounds nothing.
 -- Assumes nothing.
 use mathlib.Core.Path.{_≡_, _∙_}
-use Rattle.element.proofs.IntToFloat.{int-to-f64, int-to-f32}
+use Rattle.kinds.specs.declared.OutOfRangeMode.the-variants.{None}
+use Rattle.element.proofs.IntToFloat.{int-to-f64, int-to-f32, held-by-f32}
 use Rattle.element.proofs.FloatToInt.{eight-of}
 use borrow.Author.Needs.{needs}
 use Rattle.element.proofs.convert_int_to_float.Statement.{statement}
@@ -18,16 +19,29 @@ int-to-f64-bits-requires : tie.Need-int-to-f64-bits-requires
 int-to-f64-bits-requires c κs = search needs
 
 returns : tie.Need-returns
-returns c = let t = c .before .before .before in let a = t .args in let x = c .before .before .int-magnitude in int-to-f64 (a .b) (a .from .signed) (a .from .bits) (t .pre .0) (x .result) (x .ensures) (a .mode) (c .int-to-f64-bits .result) (a .to) (c .before .if1 .taken) (c .int-to-f64-bits .ensures)
+returns c =
+    let t = c .before .before .before in
+    let a = t .args in
+    let x = c .before .before .int-magnitude in
+    int-to-f64 (a .b) (a .from .signed) (a .from .bits) (t .pre .0) (x .result) (x .ensures) (a .mode) (c .int-to-f64-bits .result) (a .to) (c .before .if1 .taken) (c .int-to-f64-bits .ensures)
 
 int-to-f64-bits-requires-2 : tie.Need-int-to-f64-bits-requires-2
 int-to-f64-bits-requires-2 c κs = search needs
 
-narrow-requires : tie.Need-narrow-requires
-narrow-requires c κs = search needs
+narrow-held-requires : tie.Need-narrow-held-requires
+narrow-held-requires c κs =
+    let t = c .before .before .before in
+    let a = t .args in
+    let x = c .before .before .int-magnitude in
+    held-by-f32 (a .b) (a .from .signed) (a .from .bits) (t .pre .0) (x .result) (x .ensures) (a .mode) (c .int-to-f64-bits2 .result) (c .int-to-f64-bits2 .ensures)
 
 returns-2 : tie.Need-returns-2
-returns-2 c = let t = c .before .before .before .before in let a = t .args in let x = c .before .before .before .int-magnitude in let v = c .before .int-to-f64-bits2 in λ range. c .narrow .ensures ∙ int-to-f32 (a .b) (a .from .signed) (a .from .bits) (t .pre .0) (x .result) (x .ensures) (a .mode) (v .result) (v .ensures) (a .to) (eight (c .before .before)) range
+returns-2 c =
+    let t = c .before .before .before .before in
+    let a = t .args in
+    let x = c .before .before .before .int-magnitude in
+    let v = c .before .int-to-f64-bits2 in
+    λ range. c .narrow-held .ensures (a .mode) None ∙ int-to-f32 (a .b) (a .from .signed) (a .from .bits) (t .pre .0) (x .result) (x .ensures) (a .mode) (v .result) (v .ensures) (a .to) (eight (c .before .before)) range
 
 pub convert-int-to-float-spec : {M : Type 1} → statement M
 convert-int-to-float-spec =
@@ -37,5 +51,5 @@ convert-int-to-float-spec =
     int-to-f64-bits-requires
     returns
     int-to-f64-bits-requires-2
-    narrow-requires
+    narrow-held-requires
     returns-2)

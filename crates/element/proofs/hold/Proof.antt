@@ -1,6 +1,14 @@
 -- `element::hold` meets its contract: each way is a law of the range step.
 -- Assumes nothing.
-use Rattle.element.proofs.Range.{held-far, held-near, held-in}
+use mathlib.Core.Path.{sym, ap, subst, _∙_}
+use Prim.Native.Nat.{ℕ}
+use Rattle.grid.specs.Round.{signed}
+use Rattle.patterns.specs.Pattern.{lowBits}
+use Rattle.kinds.specs.declared.OutOfRangeMode.{OutOfRangeMode}
+use Rattle.kinds.specs.Row.{integerOf}
+use Rattle.element.specs.declared.Fit.the-variants.{Pattern, Past}
+use Rattle.element.specs.Convert.{Held}
+use Rattle.element.proofs.Range.{refused-far, refused-near, held-in, clamped, wrapped}
 use borrow.Author.Needs.{needs}
 use Rattle.element.proofs.hold.Statement.{statement}
 use Rattle.element.proofs.hold.Tie as tie
@@ -8,32 +16,78 @@ use Rattle.element.proofs.hold.Tie as tie
 end-magnitude-requires : tie.Need-end-magnitude-requires
 end-magnitude-requires c κs = search needs
 
-past-requires : tie.Need-past-requires
-past-requires c κs = search needs
+enum-told : tie.Need-enum-told
+enum-told c = search needs
 
 returns : tie.Need-returns
-returns c = let t = c .before .before .before in let a = t .args in let e = c .before .before .end-magnitude in held-far (a .to .signed) (a .to .bits) (t .pre .some) (t .pre .most) (a .negative) (a .magnitude) (a .far) (a .range) (e .result) (e .ensures) (c .before .if1 .taken) (c .past .result) (c .past .ensures)
-
-past-requires-2 : tie.Need-past-requires-2
-past-requires-2 c κs = search needs
+returns c =
+    let t = c .before .before .before .before in
+    let a = t .args in
+    let e = c .before .before .before .end-magnitude in
+    subst (λ (o : OutOfRangeMode). Held (a .negative) (a .magnitude) (a .far) (integerOf (a .to)) o Past) (sym (c .before .enum-told .given .1)) (refused-far (a .to .signed) (a .to .bits) (t .pre .some) (t .pre .most) (a .negative) (a .magnitude) (a .far) (e .result) (e .ensures) (c .if1 .taken))
 
 returns-2 : tie.Need-returns-2
-returns-2 c = let t = c .before .before .before .before in let a = t .args in let e = c .before .before .before .end-magnitude in held-near (a .to .signed) (a .to .bits) (t .pre .some) (t .pre .most) (a .negative) (a .magnitude) (a .far) (a .range) (e .result) (e .ensures) (c .before .before .if1 .left) (c .before .if2 .taken) (c .past2 .result) (c .past2 .ensures)
+returns-2 c =
+    let t = c .before .before .before .before .before in
+    let a = t .args in
+    let e = c .before .before .before .before .end-magnitude in
+    subst (λ (o : OutOfRangeMode). Held (a .negative) (a .magnitude) (a .far) (integerOf (a .to)) o Past) (sym (c .before .before .enum-told .given .1)) (refused-near (a .to .signed) (a .to .bits) (t .pre .some) (t .pre .most) (a .negative) (a .magnitude) (a .far) (e .result) (e .ensures) (c .before .if1 .left) (c .if2 .taken))
 
 wrap-magnitude-requires : tie.Need-wrap-magnitude-requires
 wrap-magnitude-requires c κs = search needs
 
+enum-told-2 : tie.Need-enum-told-2
+enum-told-2 c = search needs
+
+clamp-requires : tie.Need-clamp-requires
+clamp-requires c κs = search needs
+
+wrap-magnitude-requires-2 : tie.Need-wrap-magnitude-requires-2
+wrap-magnitude-requires-2 c κs = search needs
+
+enum-told-3 : tie.Need-enum-told-3
+enum-told-3 c = search needs
+
+wrap-magnitude-requires-3 : tie.Need-wrap-magnitude-requires-3
+wrap-magnitude-requires-3 c κs = search needs
+
 returns-3 : tie.Need-returns-3
-returns-3 c = let t = c .before .before .before .before in let a = t .args in let e = c .before .before .before .end-magnitude in held-in (a .to .signed) (a .to .bits) (t .pre .some) (t .pre .most) (a .negative) (a .magnitude) (a .far) (a .range) (e .result) (e .ensures) (c .before .before .if1 .left) (c .before .if2 .left) (c .wrap-magnitude .result) (c .wrap-magnitude .ensures)
+returns-3 c =
+    let t = c .before .before .before .before .before .before in
+    let a = t .args in
+    let e = c .before .before .before .before .before .end-magnitude in
+    held-in (a .to .signed) (a .to .bits) (t .pre .some) (t .pre .most) (a .negative) (a .magnitude) (a .far) (e .result) (e .ensures) (c .before .before .if1 .left) (c .before .if2 .left) (a .range) (c .wrap-magnitude .result) (c .wrap-magnitude .ensures)
+
+returns-4 : tie.Need-returns-4
+returns-4 c =
+    let t = c .before .before .before .before .before in
+    let a = t .args in
+    let e = c .before .before .before .before .end-magnitude in
+    let w = c .wrap-magnitude2 in
+    subst (λ (o : OutOfRangeMode). Held (a .negative) (a .magnitude) (a .far) (integerOf (a .to)) o (Pattern (w .result))) (sym (c .before .before .enum-told2 .given .1)) (clamped (a .to .signed) (a .to .bits) (t .pre .some) (t .pre .most) (a .negative) (a .magnitude) (a .far) (e .result) (e .ensures) (w .result) (w .ensures ∙ ap (λ (z : ℕ). lowBits (a .to .bits) (signed (a .negative) z)) (c .before .clamp .ensures)))
+
+returns-5 : tie.Need-returns-5
+returns-5 c =
+    let t = c .before .before .before .before in
+    let a = t .args in
+    let e = c .before .before .before .end-magnitude in
+    let w = c .wrap-magnitude3 in
+    subst (λ (o : OutOfRangeMode). Held (a .negative) (a .magnitude) (a .far) (integerOf (a .to)) o (Pattern (w .result))) (sym (c .before .enum-told3 .given .1)) (wrapped (a .to .signed) (a .to .bits) (t .pre .some) (t .pre .most) (a .negative) (a .magnitude) (a .far) (e .result) (e .ensures) (w .result) (w .ensures))
 
 pub hold-spec : {M : Type 1} → statement M
 hold-spec =
     tie.close
     (tie.spec
     end-magnitude-requires
-    past-requires
+    enum-told
     returns
-    past-requires-2
     returns-2
     wrap-magnitude-requires
-    returns-3)
+    enum-told-2
+    clamp-requires
+    wrap-magnitude-requires-2
+    enum-told-3
+    wrap-magnitude-requires-3
+    returns-3
+    returns-4
+    returns-5)

@@ -1,32 +1,39 @@
--- `integers::int_to_f64_bits` meets its contract: a float that is exactly the pick has the pick's own pattern.
+-- `integers::int_to_f64_bits` meets its contract: a float that is exactly the pick has the bits of the pick's magnitude, and the sign stands over them.
 -- Assumes nothing.
+use mathlib.Core.Bool.{false}
 use mathlib.Core.Path.{sym, ap, _∙_}
 use lib.Dec.{lit≤}
-use lib.Ieee.{binary64}
 use lib.IntN.{ℤ}
-use borrow.Author.Needs.{needs}
 use Rattle.patterns.specs.Kind.{f64}
 use Rattle.patterns.specs.Pattern.{patternOf}
 use Rattle.grid.specs.Grid.{float}
 use Rattle.grid.specs.Round.{pickMag, ruleFor}
-use Rattle.integers.proofs.Patterns.{toBits-of-whole, valued-no-nan}
+use Rattle.integers.proofs.Patterns.{signed-bits, signed-bits-fit, valued-no-nan}
 use Rattle.integers.proofs.Scale.{pick-scale-signed}
+use borrow.Author.Needs.{needs}
 use Rattle.integers.proofs.int_to_f64_bits.Statement.{statement}
 use Rattle.integers.proofs.int_to_f64_bits.Tie as tie
 
 round-int-to-precision-requires : tie.Need-round-int-to-precision-requires
 round-int-to-precision-requires c κs = search needs
 
-float-to-bits-result : tie.Need-float-to-bits-result
-float-to-bits-result c = valued-no-nan (c .round-int-to-precision .result) (c .before .args .negative) _ 1 (c .round-int-to-precision .ensures .value)
+float-to-bits-x : tie.Need-float-to-bits-x
+float-to-bits-x c = let x = c .round-int-to-precision in valued-no-nan (x .result) false _ 1 (x .ensures .value)
+
+cast-result : tie.Need-cast-result
+cast-result c = search needs
+
+add-result : tie.Need-add-result
+add-result c = let x = c .round-int-to-precision in record { fits = signed-bits-fit (x .result) _ (x .ensures .value) (x .ok) (c .before .args .negative) }
 
 returns : tie.Need-returns
 returns c =
     let a = c .before .args in
-    let n = pickMag (float (a .digits) 0) (ruleFor (a .negative) (a .mode)) (a .magnitude) in
-    toBits-of-whole binary64 (c .round-int-to-precision .result) (a .negative) n (c .round-int-to-precision .ensures .value)
+    let x = c .round-int-to-precision in
+    signed-bits (x .result) (pickMag (float (a .digits) 0) (ruleFor (a .negative) (a .mode)) (a .magnitude)) (x .ensures .value) (a .negative)
     ∙ ap (λ (z : ℤ). patternOf f64 (a .negative) z) (sym (pick-scale-signed (a .digits) 0 (c .before .pre .least) (a .mode) (a .negative) (a .magnitude) 1074 (lit≤ tt)))
 
 pub int-to-f64-bits-spec : {M : Type 1} → statement M
 int-to-f64-bits-spec =
-    tie.close (tie.spec round-int-to-precision-requires float-to-bits-result returns)
+    tie.close
+    (tie.spec round-int-to-precision-requires float-to-bits-x cast-result add-result returns)

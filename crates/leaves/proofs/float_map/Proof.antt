@@ -28,7 +28,7 @@ slice-aggregate-apply-scalar-map-float-2 : tie.Need-slice-aggregate-apply-scalar
 slice-aggregate-apply-scalar-map-float-2 c = search needs
 
 apply-scalar-map-float-requires : tie.Need-apply-scalar-map-float-requires
-apply-scalar-map-float-requires c κs = record { float = search needs; listed = search needs; bytes = record { fits = search needs; target-width = inl refl; whole-keys = search needs; whole-targets = search needs } }
+apply-scalar-map-float-requires c κs = record { float = search needs; listed = search needs; bytes = record { fits = search needs; key-width = refl; target-width = inl refl; whole-keys = search needs; whole-targets = search needs } }
 
 looked-up-requires : tie.Need-looked-up-requires
 looked-up-requires c κs = search needs

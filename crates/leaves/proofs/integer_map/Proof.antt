@@ -22,7 +22,7 @@ slice-aggregate-apply-scalar-map-int-2 : tie.Need-slice-aggregate-apply-scalar-m
 slice-aggregate-apply-scalar-map-int-2 c = search needs
 
 apply-scalar-map-int-requires : tie.Need-apply-scalar-map-int-requires
-apply-scalar-map-int-requires c κs = record { listed = search needs; bytes = record { fits = search needs; target-width = inl refl; whole-keys = search needs; whole-targets = search needs } }
+apply-scalar-map-int-requires c κs = record { listed = search needs; bytes = record { fits = search needs; key-width = refl; target-width = inl refl; whole-keys = search needs; whole-targets = search needs } }
 
 looked-up-requires : tie.Need-looked-up-requires
 looked-up-requires c κs = search needs

@@ -8,26 +8,23 @@ use Rattle.mapping.proofs.apply_scalar_map_float.Statement.{statement}
 use Rattle.mapping.proofs.apply_scalar_map_float.Tie as tie
 
 abbrev Inv-loop : tie.InvT-loop
-Inv-loop b keys targets n from dw sw j₀ j = Passed b keys targets n from dw sw j
+Inv-loop b keys targets n from sw dw j₀ j = Passed b keys targets n from sw dw j
 
 abbrev μ-loop : tie.MeasureT-loop
-μ-loop b keys targets n from dw sw j₀ j = n - j
-
-row-of-requires : tie.Need-row-of-requires Inv-loop μ-loop
-row-of-requires c κs = search needs
+μ-loop b keys targets n from sw dw j₀ j = n - j
 
 loop-holds : tie.Need-loop-holds Inv-loop μ-loop
-loop-holds c = none-passed (c .row-of .result) (c .row-of .ensures)
+loop-holds c = none-passed
 
 pattern-at-requires : tie.Need-pattern-at-requires Inv-loop μ-loop
 pattern-at-requires c κs =
-    let t = c .before .before .before .before .before in
+    let t = c .before .before .before .before in
     key-place (t .pre .bytes) (c .before .loop .inv) (c .loop-test .taken) (float-code-width (t .args .from) (t .pre .float) (t .pre .listed))
 
 matches-float-requires : tie.Need-matches-float-requires Inv-loop μ-loop
 matches-float-requires c κs =
     let l = c .before in
-    let t = l .before .before .before .before .before in
+    let t = l .before .before .before .before in
     record {
       float = t .pre .float;
       listed = t .pre .listed;
@@ -38,14 +35,14 @@ matches-float-requires c κs =
 pattern-at-requires-2 : tie.Need-pattern-at-requires-2 Inv-loop μ-loop
 pattern-at-requires-2 c κs =
     let l = c .before .before .before in
-    let t = l .before .before .before .before .before in
+    let t = l .before .before .before .before in
     target-place (t .pre .bytes) (l .before .loop .inv) (l .loop-test .taken)
 
 returns : tie.Need-returns Inv-loop μ-loop
 returns c =
     let m = c .before .before in
     let l = m .before .before in
-    let t = l .before .before .before .before .before in
+    let t = l .before .before .before .before in
     found (t .pre .bytes) (l .before .loop .inv) (l .loop-test .taken) (m .before .pattern-at .ensures) (m .matches-float .ensures) (c .before .if1 .taken) (c .pattern-at2 .ensures .0)
 
 add-j : tie.Need-add-j Inv-loop μ-loop
@@ -58,7 +55,7 @@ loop-again : tie.Need-loop-again Inv-loop μ-loop
 loop-again c =
     let m = c .before in
     let l = m .before .before in
-    let t = l .before .before .before .before .before in
+    let t = l .before .before .before .before in
     passed (t .pre .bytes) (l .before .loop .inv) (l .loop-test .taken) (m .before .pattern-at .ensures) (m .matches-float .ensures) (c .if1 .left)
 
 returns-2 : tie.Need-returns-2 Inv-loop μ-loop
@@ -70,7 +67,6 @@ apply-scalar-map-float-spec =
     (tie.spec
     Inv-loop
     μ-loop
-    row-of-requires
     loop-holds
     pattern-at-requires
     matches-float-requires

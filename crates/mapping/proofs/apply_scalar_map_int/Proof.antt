@@ -11,40 +11,37 @@ use Rattle.mapping.proofs.apply_scalar_map_int.Statement.{statement}
 use Rattle.mapping.proofs.apply_scalar_map_int.Tie as tie
 
 abbrev Inv-loop : tie.InvT-loop
-Inv-loop b keys targets n from dw sw i₀ i = Passed b keys targets n from dw sw i
+Inv-loop b keys targets n from sw dw i₀ i = Passed b keys targets n from sw dw i
 
 abbrev μ-loop : tie.MeasureT-loop
-μ-loop b keys targets n from dw sw i₀ i = n - i
-
-row-of-requires : tie.Need-row-of-requires Inv-loop μ-loop
-row-of-requires c κs = search needs
+μ-loop b keys targets n from sw dw i₀ i = n - i
 
 loop-holds : tie.Need-loop-holds Inv-loop μ-loop
-loop-holds c = none-passed (c .row-of .result) (c .row-of .ensures)
+loop-holds c = none-passed
 
 pattern-at-requires : tie.Need-pattern-at-requires Inv-loop μ-loop
 pattern-at-requires c κs =
-    let t = c .before .before .before .before .before in
+    let t = c .before .before .before .before in
     key-place (t .pre .bytes) (c .before .loop .inv) (c .loop-test .taken) (integer-code-width (t .args .from) (t .pre .listed))
 
 -- whether b is the pattern that was read
-tested : (c : tie.After-pattern-at Inv-loop μ-loop) → let a = c .before .before .before .before .before .before .args in Matched (a .b) (c .pattern-at .result) (eqb (a .b) (c .pattern-at .result)) (kindOf (a .from))
+tested : (c : tie.After-pattern-at Inv-loop μ-loop) → let a = c .before .before .before .before .before .args in Matched (a .b) (c .pattern-at .result) (eqb (a .b) (c .pattern-at .result)) (kindOf (a .from))
 tested c =
     let l = c .before in
-    let t = l .before .before .before .before .before in
+    let t = l .before .before .before .before in
     coded-integers-match (t .args .from) (t .args .b) (c .pattern-at .result) (t .pre .listed) (t .pre .bytes .fits) (key-fits (t .pre .bytes) (l .before .loop .inv) (l .loop-test .taken) (c .pattern-at .ensures))
 
 pattern-at-requires-2 : tie.Need-pattern-at-requires-2 Inv-loop μ-loop
 pattern-at-requires-2 c κs =
     let l = c .before .before in
-    let t = l .before .before .before .before .before in
+    let t = l .before .before .before .before in
     target-place (t .pre .bytes) (l .before .loop .inv) (l .loop-test .taken)
 
 returns : tie.Need-returns Inv-loop μ-loop
 returns c =
     let k = c .before .before in
     let l = k .before in
-    let t = l .before .before .before .before .before in
+    let t = l .before .before .before .before in
     found (t .pre .bytes) (l .before .loop .inv) (l .loop-test .taken) (k .pattern-at .ensures) (tested k) (eq-eqb _ _ (c .before .if1 .taken)) (c .pattern-at2 .ensures .0)
 
 add-i : tie.Need-add-i Inv-loop μ-loop
@@ -57,7 +54,7 @@ loop-again : tie.Need-loop-again Inv-loop μ-loop
 loop-again c =
     let k = c .before in
     let l = k .before in
-    let t = l .before .before .before .before .before in
+    let t = l .before .before .before .before in
     passed (t .pre .bytes) (l .before .loop .inv) (l .loop-test .taken) (k .pattern-at .ensures) (tested k) (ne-eqb _ _ (c .if1 .left))
 
 returns-2 : tie.Need-returns-2 Inv-loop μ-loop
@@ -69,7 +66,6 @@ apply-scalar-map-int-spec =
     (tie.spec
     Inv-loop
     μ-loop
-    row-of-requires
     loop-holds
     pattern-at-requires
     pattern-at-requires-2

@@ -1,10 +1,9 @@
 -- `wrapping::wrap_magnitude` meets its contract: a wrapped difference has the residue's lowest bits.
 -- Assumes nothing.
-use mathlib.Core.Path.{sym, ap, _∙_}
-use mathlib.Core.Bool.{Bool}
-use Rattle.grid.specs.Round.{signed}
-use Rattle.patterns.specs.Pattern.{lowBits}
-use Rattle.wrapping.proofs.Residues.{wrapped-negative, wrapped-positive}
+use mathlib.Core.Path.{ap, _∙_}
+use Prim.Native.Nat.{ℕ, _-_, _/_, _^_}
+use lib.Bits.{bitAnd}
+use Rattle.wrapping.proofs.Residues.{wrapped}
 use borrow.Author.Needs.{needs}
 use Rattle.wrapping.proofs.wrap_magnitude.Statement.{statement}
 use Rattle.wrapping.proofs.wrap_magnitude.Tie as tie
@@ -21,12 +20,16 @@ shr-mask c = search needs
 wrapping-sub-u64-requires : tie.Need-wrapping-sub-u64-requires
 wrapping-sub-u64-requires c κs = search needs
 
-returns : tie.Need-returns
-returns c = let t = c .before .before in let a = t .args in wrapped-negative (a .bits) (t .pre .1) (c .wrapping-sub-u64 .result) (a .magnitude) (c .wrapping-sub-u64 .ensures) ∙ ap (λ (n : Bool). lowBits (a .bits) (signed n (a .magnitude))) (sym (c .before .if1 .taken))
+choose-requires : tie.Need-choose-requires
+choose-requires c κs = search needs
 
-returns-2 : tie.Need-returns-2
-returns-2 c = let t = c .before in let a = t .args in wrapped-positive (a .bits) (t .pre .1) (a .magnitude) ∙ ap (λ (n : Bool). lowBits (a .bits) (signed n (a .magnitude))) (sym (c .if1 .left))
+returns : tie.Need-returns
+returns c =
+    let t = c .before .before in
+    let a = t .args in
+    ap (λ (x : ℕ). bitAnd x ((2 ^ 64 - 1) / 2 ^ (64 - a .bits))) (c .choose .ensures) ∙ wrapped (a .bits) (t .pre .1) (a .negative) (c .before .wrapping-sub-u64 .result) (a .magnitude) (c .before .wrapping-sub-u64 .ensures)
 
 pub wrap-magnitude-spec : {M : Type 1} → statement M
 wrap-magnitude-spec =
-    tie.close (tie.spec sub-mask cast-mask shr-mask wrapping-sub-u64-requires returns returns-2)
+    tie.close
+    (tie.spec sub-mask cast-mask shr-mask wrapping-sub-u64-requires choose-requires returns)

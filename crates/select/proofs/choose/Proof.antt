@@ -1,0 +1,37 @@
+-- `select::choose` meets its contract: the mask is all ones where the condition holds, and else 0.
+-- Assumes nothing.
+use native.Mathlib.Omega.{arith}
+use mathlib.Core.Path.{_∙_}
+use Rattle.select.proofs.Masked.{masked}
+use borrow.Author.Needs.{needs}
+use Rattle.select.proofs.choose.Statement.{statement}
+use Rattle.select.proofs.choose.Tie as tie
+
+cast-wrapping-sub-u64 : tie.Need-cast-wrapping-sub-u64
+cast-wrapping-sub-u64 c = search needs
+
+wrapping-sub-u64-requires : tie.Need-wrapping-sub-u64-requires
+wrapping-sub-u64-requires c κs = search needs
+
+wrapping-sub-u64-requires-2 : tie.Need-wrapping-sub-u64-requires-2
+wrapping-sub-u64-requires-2 c κs = search needs
+
+wrapping-add-u64-requires : tie.Need-wrapping-add-u64-requires
+wrapping-add-u64-requires c κs = search needs
+
+returns : tie.Need-returns
+returns c =
+    let more = c .before .wrapping-sub-u642 in
+    let mask = c .before .before .wrapping-sub-u64 in
+    let a = c .before .before .before .args in
+    c .wrapping-add-u64 .ensures ∙ masked (a .a) (a .b) (more .result) (mask .result) (omega arith) (omega arith) (omega arith) (more .ensures) (a .second) (mask .ensures)
+
+pub choose-spec : {M : Type 1} → statement M
+choose-spec =
+    tie.close
+    (tie.spec
+    cast-wrapping-sub-u64
+    wrapping-sub-u64-requires
+    wrapping-sub-u64-requires-2
+    wrapping-add-u64-requires
+    returns)
