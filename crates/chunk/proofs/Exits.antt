@@ -24,6 +24,8 @@ use Rattle.kinds.specs.declared.OutOfRangeMode.{OutOfRangeMode}
 use Rattle.grid.specs.declared.RoundingMode.{RoundingMode}
 use Rattle.mapping.proofs.Codes.{row-width}
 use Rattle.kinds.specs.Row.{rowOf}
+use Rattle.element.specs.declared.Class.{Class}
+use Rattle.element.specs.Convert.{classOf}
 use Rattle.kinds.specs.declared.Answer.the-variants as A
 
 -- ---- a listed kind's width is not 0
@@ -31,12 +33,13 @@ pub width-pos : (code : ℕ) → code < 10 → 0 < width (kindOf code)
 width-pos code h = ⊎-elim (λ (e : width (kindOf code) ≡ 1). omega arith) (⊎-elim (λ (e : width (kindOf code) ≡ 2). omega arith) (⊎-elim (λ (e : width (kindOf code) ≡ 4). omega arith) (λ (e : width (kindOf code) ≡ 8). omega arith))) (listed-width code h)
 
 -- ---- the settings that a program puts together
-pub settings-are : (from to rounding range keys : ℕ) (x y : KindRow) (r : RoundingMode) (g : OutOfRangeMode) → x ≡ rowOf (kindOf from) → y ≡ rowOf (kindOf to) → r ≡ roundingOf rounding → g ≡ rangeOf range
-    → record { from = from; to = to; source = x; target = y; rounding = r; range = g; sw = x .bytes; dw = y .bytes; entries = keys / x .bytes } ≡ settingsBy from to rounding range keys
-settings-are from to rounding range keys x y r g ex ey er eg =
-    ap₂ {C = Settings} (λ (a b : ℕ). record { from = from; to = to; source = x; target = y; rounding = r; range = g; sw = a; dw = b; entries = keys / a }) (row-width (kindOf from) x ex) (row-width (kindOf to) y ey)
-    ∙ ap₂ {C = Settings} (λ (a b : KindRow). record { from = from; to = to; source = a; target = b; rounding = r; range = g; sw = width (kindOf from); dw = width (kindOf to); entries = keys / width (kindOf from) }) ex ey
-    ∙ ap₂ {C = Settings} (λ (a : RoundingMode) (b : OutOfRangeMode). record { from = from; to = to; source = rowOf (kindOf from); target = rowOf (kindOf to); rounding = a; range = b; sw = width (kindOf from); dw = width (kindOf to); entries = keys / width (kindOf from) }) er eg
+pub settings-are : (from to rounding range keys : ℕ) (k : Class) (x y : KindRow) (r : RoundingMode) (g : OutOfRangeMode) → k ≡ classOf from to → x ≡ rowOf (kindOf from) → y ≡ rowOf (kindOf to) → r ≡ roundingOf rounding → g ≡ rangeOf range
+    → record { class = k; from = from; to = to; source = x; target = y; rounding = r; range = g; sw = x .bytes; dw = y .bytes; entries = keys / x .bytes } ≡ settingsBy from to rounding range keys
+settings-are from to rounding range keys k x y r g ek ex ey er eg =
+    ap₂ {C = Settings} (λ (a b : ℕ). record { class = k; from = from; to = to; source = x; target = y; rounding = r; range = g; sw = a; dw = b; entries = keys / a }) (row-width (kindOf from) x ex) (row-width (kindOf to) y ey)
+    ∙ ap₂ {C = Settings} (λ (a b : KindRow). record { class = k; from = from; to = to; source = a; target = b; rounding = r; range = g; sw = width (kindOf from); dw = width (kindOf to); entries = keys / width (kindOf from) }) ex ey
+    ∙ ap₂ {C = Settings} (λ (a : RoundingMode) (b : OutOfRangeMode). record { class = k; from = from; to = to; source = rowOf (kindOf from); target = rowOf (kindOf to); rounding = a; range = b; sw = width (kindOf from); dw = width (kindOf to); entries = keys / width (kindOf from) }) er eg
+    ∙ ap {B = Settings} (λ (c : Class). record { class = c; from = from; to = to; source = rowOf (kindOf from); target = rowOf (kindOf to); rounding = roundingOf rounding; range = rangeOf range; sw = width (kindOf from); dw = width (kindOf to); entries = keys / width (kindOf from) }) ek
 
 -- ---- a test of several parts
 and-left : (a b : Bool) → a && b ≡ true → a ≡ true
@@ -100,6 +103,7 @@ module _ (I : Inputs) (a : codesListed I ≡ true) (b : mapWhole I ≡ true) (c 
   ready = record {
     from = codes .0;
     to = codes .1;
+    class = refl;
     source-row = refl;
     target-row = refl;
     source = refl;

@@ -17,6 +17,7 @@ use Rattle.mapping.specs.declared.Lookup.{Lookup}
 use Rattle.cast_spec.specs.Element as E
 use Rattle.cast_spec.specs.Element.{outcomeOf}
 use Rattle.cast_spec.specs.Chunk.{width, entriesFrom, answerFrom, bytesFrom}
+use Rattle.element.specs.Convert.{classOf}
 use Rattle.chunk.specs.declared.Settings.{Settings}
 
 -- the definitions' settings of those that a program holds, with the map's bytes
@@ -26,6 +27,7 @@ settingsFor s keys targets = record { from = kindOf (s .from); to = kindOf (s .t
 -- those of the codes, where the map has so many bytes of keys
 abbrev pub settingsBy : ℕ → ℕ → ℕ → ℕ → ℕ → Settings
 settingsBy from to rounding range keys = record {
+  class = classOf from to;
   from = from;
   to = to;
   source = rowOf (kindOf from);
@@ -37,10 +39,11 @@ settingsBy from to rounding range keys = record {
   entries = keys / width (kindOf from);
 }
 
--- the codes are listed, the rows and the widths are those of the kinds, and the map is whole
+-- the codes are listed, the class, the rows and the widths are those of the kinds, and the map is whole
 pub record Ready (s : Settings) (keys targets : List ℕ) : Type 0 where
   pub from : s .from < 10
   pub to : s .to < 10
+  pub class : s .class ≡ classOf (s .from) (s .to)
   pub source-row : s .source ≡ rowOf (kindOf (s .from))
   pub target-row : s .target ≡ rowOf (kindOf (s .to))
   pub source : s .sw ≡ width (kindOf (s .from))

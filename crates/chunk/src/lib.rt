@@ -7,6 +7,7 @@ ghost use Rattle.cast_spec.specs.Element.{outcomeOf};
 ghost use Rattle.cast_spec.specs.Chunk.{inputs, answerNext};
 ghost use Rattle.cast_spec.specs.Demand3.{Contract};
 ghost use Rattle.chunk.specs.Run.{settingsFor, settingsBy, lookedUp, ElementIn, PlaceIn, ConvertedAt, RunIn, Ran};
+use element::Class;
 use grid::RoundingMode;
 use kinds::Answer;
 use kinds::KindRow;
@@ -14,8 +15,9 @@ use kinds::OutOfRangeMode;
 use kinds::Outcome;
 use mapping::Lookup;
 
-// What a call converts by: the codes of the two kinds and their rows, the two rules, the bytes of a source and of a destination element, and the map's entries.
+// What a call converts by: the class and the codes of the two kinds and their rows, the two rules, the bytes of a source and of a destination element, and the map's entries.
 pub struct Settings {
+    pub class: Class,
     pub from: u8,
     pub to: u8,
     pub source: KindRow,
@@ -46,6 +48,7 @@ fn outcome(b: u64, keys: &[u8], targets: &[u8], s: Settings) -> Outcome
     requires { ⌜ ElementIn b s (now keys) (now targets) ⌝ }
     ensures { λ r. ⌜ r ≡ outcomeOf (settingsFor s (now (keys .entry)) (now (targets .entry))) b ⌝ }
 {
+    let class = s.class;
     let source = s.source;
     let target = s.target;
     let rounding = s.rounding;
@@ -54,6 +57,7 @@ fn outcome(b: u64, keys: &[u8], targets: &[u8], s: Settings) -> Outcome
         Lookup::Found(pattern) => Outcome::Stored(pattern),
         Lookup::Missing => element::convert_element(
             b,
+            class,
             s.from,
             s.to,
             source,
@@ -163,6 +167,7 @@ fn settings_of(from: u8, to: u8, rounding: u8, range: u8, keys: usize) -> Settin
     let source = kinds::row_of(from);
     let target = kinds::row_of(to);
     Settings {
+        class: element::class_of(from, to),
         from: from,
         to: to,
         source: source,

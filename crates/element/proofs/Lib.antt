@@ -4,3 +4,4 @@ pub mod FloatToInt
 pub mod Integers
 pub mod ToFloat
 pub mod IntToFloat
+pub mod Classes

@@ -40,7 +40,6 @@ use Rattle.grid.proofs.Kept.{pick-signed}
 use Rattle.kinds.specs.Row.{rowOf}
 use Rattle.floats.proofs.Widening.{sign-moved}
 use Rattle.element.proofs.FloatToInt.{by-float, eight-of, nine-of}
-use Rattle.floats.proofs.Successor.{least}
 
 -- ---- a pick in range is stored, and one past it goes as the range choice says
 module _ (k : Kind) (range : OutOfRangeMode) (v : ℕ) (neg : Bool) (y : ℤ) where

@@ -4,7 +4,7 @@ use mathlib.Core.Path.{_≡_}
 use mathlib.Core.Bool.{Bool, cond}
 use mathlib.Core.List.{[]}
 use Prim.Native.Nat.{ℕ, _-_, _*_, _%_, _^_, _≤_, _<_}
-use lib.Dec.{leb}
+use lib.Dec.{leb, ltb}
 use lib.IntN.{ℤ}
 use Rattle.grid.specs.Round.{signed}
 use Rattle.grid.specs.declared.RoundingMode.{RoundingMode}
@@ -17,6 +17,8 @@ use Rattle.kinds.specs.declared.OutOfRangeMode.{OutOfRangeMode}
 use Rattle.kinds.specs.declared.Outcome.{Outcome}
 use Rattle.kinds.specs.declared.Outcome.the-variants.{Stored, OutOfRange}
 use Rattle.cast_spec.specs.Element.{ranged, converted}
+use Rattle.element.specs.declared.Class.{Class}
+use Rattle.element.specs.declared.Class.the-variants.{IntToInt, IntToFloat, FloatToInt, FloatToFloat}
 use Rattle.element.specs.declared.Fit.{Fit}
 use Rattle.element.specs.declared.Fit.the-variants.{Pattern, Past}
 
@@ -30,6 +32,10 @@ pub record FloatPattern (b code : ℕ) : Type 0 where
   pub least : 8 ≤ code
   pub most : code ≤ 9
   pub fits : b < 2 ^ bits (kindOf code)
+
+-- "Four element conversions": by whether the source and the target are integer kinds, the codes below 8
+abbrev pub classOf : ℕ → ℕ → Class
+classOf from to = cond (ltb from 8) (cond (ltb to 8) IntToInt IntToFloat) (cond (ltb to 8) FloatToInt FloatToFloat)
 
 -- an f64 whose number is one of f32
 pub record HeldByF32 (b : ℕ) : Type 0 where

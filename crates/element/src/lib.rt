@@ -9,13 +9,20 @@ ghost use Rattle.kinds.specs.Codes.{kindOf};
 ghost use Rattle.kinds.specs.Row.{rowOf, integerOf, IntegerRow};
 ghost use Rattle.kinds.specs.declared.OutOfRangeMode.{OutOfRangeMode};
 ghost use Rattle.kinds.specs.declared.Outcome.the-variants.{Stored};
-ghost use Rattle.rounding.specs.Rounding.{roundedOf};
 ghost use Rattle.integers.specs.Magnitude.{IntegerPattern};
-ghost use Rattle.element.specs.Convert.{ElementPattern, FloatPattern, HeldByF32, endMag, fitted, Held, unmapped};
+ghost use Rattle.element.specs.Convert.{ElementPattern, FloatPattern, HeldByF32, classOf, endMag, fitted, Held, unmapped};
 use grid::RoundingMode;
 use kinds::KindRow;
 use kinds::OutOfRangeMode;
 use kinds::Outcome;
+
+// Which of the four conversions two kinds take.
+pub enum Class {
+    IntToInt,
+    IntToFloat,
+    FloatToInt,
+    FloatToFloat,
+}
 
 // What the range step leaves of a whole number: the target pattern to store, or nothing where it is refused.
 pub enum Fit {
@@ -78,17 +85,6 @@ fn float_as_f64(b: u64, from: u8) -> u64
     b
 }
 
-// A float element rounded to a whole number in its own kind, as an f64.
-fn round_float(b: u64, from: u8, mode: RoundingMode) -> u64
-    requires { ⌜ FloatPattern b from ⌝ }
-    ensures { λ r. ⌜ r ≡ asF64 (kindOf from) (roundedOf (kindOf from) mode b) ⌝ }
-{
-    if from == 8 {
-        return floats::widen(rounding::round_with_mode_f32(b as u32, mode));
-    }
-    rounding::round_with_mode_f64(b, mode)
-}
-
 // The refusal of an element past an integer kind.
 fn out_of_range(value: u64, to: KindRow) -> Outcome
     requires { ⌜ IntegerRow to ⌝ }
@@ -116,7 +112,7 @@ pub fn convert_float_to_int(
     if 0x7ff0_0000_0000_0000 <= value & 0x7fff_ffff_ffff_ffff {
         return Outcome::NanOrInf { value: value };
     }
-    let whole = wrapping::whole_f64(round_float(b, from, mode));
+    let whole = rounding::round_to_whole(value, mode);
     match hold(whole.negative, whole.magnitude, whole.far, to, range) {
         Fit::Pattern(pattern) => Outcome::Stored(pattern),
         Fit::Past => out_of_range(value, to),
@@ -211,9 +207,26 @@ pub fn convert_int_to_float(b: u64, from: KindRow, to: u8, mode: RoundingMode) -
     Outcome::Stored(narrow_held(rounded))
 }
 
-// An element of any kind to any kind, by their codes and the rows of these, which a caller reads once for many elements.
+// The conversion that two kinds take, by their codes.
+pub fn class_of(from: u8, to: u8) -> Class
+    ensures { λ r. ⌜ r ≡ classOf from to ⌝ }
+{
+    if from < 8 {
+        if to < 8 {
+            return Class::IntToInt;
+        }
+        return Class::IntToFloat;
+    }
+    if to < 8 {
+        return Class::FloatToInt;
+    }
+    Class::FloatToFloat
+}
+
+// An element of any kind to any kind, by their codes, and by their class and rows, which a caller settles once for many elements.
 pub fn convert_element(
     b: u64,
+    class: Class,
     from: u8,
     to: u8,
     source: KindRow,
@@ -221,17 +234,13 @@ pub fn convert_element(
     mode: RoundingMode,
     range: OutOfRangeMode,
 ) -> Outcome
-    requires { ⌜ ElementPattern b from × (to < 10) × (source ≡ rowOf (kindOf from)) × (target ≡ rowOf (kindOf to)) ⌝ }
+    requires { ⌜ ElementPattern b from × (to < 10) × (class ≡ classOf from to) × (source ≡ rowOf (kindOf from)) × (target ≡ rowOf (kindOf to)) ⌝ }
     ensures { λ r. ⌜ r ≡ unmapped (kindOf from) (kindOf to) mode range b ⌝ }
 {
-    if from < 8 {
-        if to < 8 {
-            return convert_int_to_int(b, source, target, range);
-        }
-        return convert_int_to_float(b, source, to, mode);
+    match class {
+        Class::IntToInt => convert_int_to_int(b, source, target, range),
+        Class::IntToFloat => convert_int_to_float(b, source, to, mode),
+        Class::FloatToInt => convert_float_to_int(b, from, target, mode, range),
+        Class::FloatToFloat => convert_float_to_float(b, from, to, mode, range),
     }
-    if to < 8 {
-        return convert_float_to_int(b, from, target, mode, range);
-    }
-    convert_float_to_float(b, from, to, mode, range)
 }

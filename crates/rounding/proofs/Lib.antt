@@ -1,6 +1,6 @@
 pub mod Biased
 pub mod Carried
-pub mod Whole
+pub mod WholeBits
 pub mod Patterns
-pub mod RoundedValue
 pub mod Narrow
+pub mod WholePart

@@ -13,7 +13,7 @@ use borrow.Author.Tests.{ltb-false, leb-false, leb-true}
 use Rattle.grid.proofs.Kept.{pick-signed}
 use Rattle.patterns.proofs.Encode.{bits-mono, bits-mono-le}
 use Rattle.patterns.proofs.Floats.{bits-again, same-bits, inf-lt, abs-signed, inf-pos}
-use Rattle.rounding.proofs.Whole.{whole-already}
+use Rattle.rounding.proofs.WholeBits.{whole-already}
 use Rattle.grid.specs.declared.RoundingMode.{RoundingMode}
 use Rattle.patterns.specs.Kind.{binary}
 use Rattle.patterns.specs.Float.{bitsMag, infBits}

@@ -3,14 +3,16 @@
 use mathlib.Core.Path.{_≡_}
 use mathlib.Core.Bool.{cond}
 use Prim.Native.Nat.{ℕ, _+_, _-_, _/_, _%_, _^_, _≤_, _<_}
-use lib.Dec.{eqb, ltb}
+use lib.Dec.{eqb, leb, ltb}
 use Rattle.grid.specs.Grid.{whole}
-use Rattle.grid.specs.Round.{pick}
+use Rattle.grid.specs.Round.{pick, pickMag, ruleFor}
 use Rattle.grid.specs.declared.RoundingMode.{RoundingMode}
 use Rattle.grid.specs.declared.RoundingMode.the-variants.{NearestEven, TowardsZero, TowardsPositive, TowardsNegative, NearestAway}
+use Rattle.patterns.specs.Float.{bitsMag}
 use Rattle.patterns.specs.Kind.{Kind}
 use Rattle.patterns.specs.Value.{Value, nan, inf, num, negative, valueOf}
 use Rattle.patterns.specs.Pattern.{patternOf}
+use Rattle.rounding.specs.declared.Whole.{Whole}
 
 -- what is added to q units of h + 1 and a rest, so that the quotient is the step
 abbrev pub biasOf : RoundingMode → ℕ → ℕ → ℕ
@@ -55,3 +57,14 @@ roundedFrom k r b nan = b
 
 abbrev pub roundedOf : Kind → RoundingMode → ℕ → ℕ
 roundedOf k r b = roundedFrom k r b (valueOf k b)
+
+-- how many times 1 the pick on the whole numbers is, of a magnitude of n times 2^-1074
+abbrev pub wholeStep : RoundingMode → ℕ → ℕ
+wholeStep r n = pickMag (whole 1074) r n / 2 ^ 1074
+
+abbrev pub wholeMag : RoundingMode → ℕ → ℕ
+wholeMag r b = wholeStep (ruleFor (leb (2 ^ 63) b) r) (bitsMag 53 0 (b % 2 ^ 63))
+
+-- an f64's pick on the whole numbers, as a program holds it
+abbrev pub wholeOf : RoundingMode → ℕ → Whole
+wholeOf r b = record { negative = leb (2 ^ 63) b; magnitude = wholeMag r b % 2 ^ 64; far = leb (2 ^ 64) (wholeMag r b) }

@@ -1,11 +1,11 @@
-// Rounding by a rule on bits: digits dropped, a float to a whole number, an f64 to a narrower float.
+// Rounding by a rule on bits: digits dropped, a float to a whole number as a float and as an integer, an f64 to a narrower float.
 ghost use mathlib.Core.Path.{_≡_};
 ghost use Prim.Native.Nat.{_+_, _-_, _*_, _/_, _%_, _^_, _<_, _≤_, min};
 ghost use Rattle.grid.specs.Grid.{whole, float};
 ghost use Rattle.grid.specs.Round.{step, pickMag, ruleFor};
-ghost use Rattle.patterns.specs.Float.{bitsMag};
+ghost use Rattle.patterns.specs.Float.{bitsMag, fieldMag};
 ghost use Rattle.patterns.specs.Kind.{f32, f64};
-ghost use Rattle.rounding.specs.Rounding.{biasOf, Dropped, quartersOf, WholeIn, NarrowIn, roundedOf};
+ghost use Rattle.rounding.specs.Rounding.{biasOf, Dropped, quartersOf, WholeIn, NarrowIn, roundedOf, wholeStep, wholeOf};
 use grid::RoundingMode;
 
 // What is added to a number before its lowest digits are dropped: q is the kept part, and h is all ones in the dropped digits.
@@ -88,6 +88,57 @@ fn at_most_63(j: u64) -> u32
     ensures { λ r. ⌜ r ≡ min j 63 ⌝ }
 {
     if j < 63 { j as u32 } else { 63 }
+}
+
+// A whole number: its sign, its magnitude modulo 2^64, and whether the magnitude is 2^64 or more.
+pub struct Whole {
+    pub negative: bool,
+    pub magnitude: u64,
+    pub far: bool,
+}
+
+// The magnitude of an f64 below 2^52, of this exponent field and fraction, rounded to a whole number.
+fn round_fraction(field: u64, fraction: u64, mode: RoundingMode, negative: bool) -> u64
+    requires { ⌜ (field < 1075) × (fraction < 2 ^ 52) ⌝ }
+    ensures { λ r. ⌜ r ≡ wholeStep (ruleFor negative mode) (fieldMag 53 0 field fraction) ⌝ }
+{
+    if field == 0 {
+        return round_shift(fraction, 63, mode, negative);
+    }
+    round_shift(
+        fraction + 0x10_0000_0000_0000,
+        at_most_63(1075 - field),
+        mode,
+        negative,
+    )
+}
+
+// An f64 rounded to a whole number, by sign and magnitude.
+pub fn round_to_whole(b: u64, mode: RoundingMode) -> Whole
+    ensures { λ r. ⌜ r ≡ wholeOf mode b ⌝ }
+{
+    let negative = 0x8000_0000_0000_0000 <= b;
+    let field = (b >> 52) & 0x7ff;
+    let fraction = b & 0xf_ffff_ffff_ffff;
+    if field < 1075 {
+        return Whole {
+            negative: negative,
+            magnitude: round_fraction(field, fraction, mode, negative),
+            far: false,
+        };
+    }
+    if field < 1139 {
+        return Whole {
+            negative: negative,
+            magnitude: (fraction + 0x10_0000_0000_0000) << (field - 1075),
+            far: 1086 < field,
+        };
+    }
+    Whole {
+        negative: negative,
+        magnitude: 0,
+        far: true,
+    }
 }
 
 // The bits x below an f64's sign narrowed to a float of `drop` significant bits less, whose exponent field 0 is the f64's field `base`.

@@ -15,17 +15,30 @@ row-of-requires c κs = search needs
 row-of-requires-2 : tie.Need-row-of-requires-2
 row-of-requires-2 c κs = search needs
 
+class-of-requires : tie.Need-class-of-requires
+class-of-requires c κs = search needs
+
 rounding-of-requires : tie.Need-rounding-of-requires
 rounding-of-requires c κs = search needs
 
 range-of-requires : tie.Need-range-of-requires
 range-of-requires c κs = search needs
 
-div-t10 : tie.Need-div-t10
-div-t10 c = let t = c .before .before .before .before .before in let r = c .before .before .before .before .row-of in subst (λ (w : ℕ). 0 < w) (sym (row-width (kindOf (t .args .from)) (r .result) (r .ensures))) (width-pos (t .args .from) (t .pre .0))
+div-t11 : tie.Need-div-t11
+div-t11 c =
+    let x = c .before .before .before .before .before in
+    let a = x .before .args in
+    subst (λ (w : ℕ). 0 < w) (sym (row-width (kindOf (a .from)) (x .row-of .result) (x .row-of .ensures))) (width-pos (a .from) (x .before .pre .0))
 
 returns : tie.Need-returns
-returns c = let x = c .before .before .before .before in let a = x .before .args in settings-are (a .from) (a .to) (a .rounding) (a .range) (a .keys) (x .row-of .result) (c .before .before .before .row-of2 .result) (c .before .before .rounding-of .result) (c .before .range-of .result) (x .row-of .ensures) (c .before .before .before .row-of2 .ensures) (c .before .before .rounding-of .ensures) (c .before .range-of .ensures)
+returns c =
+    let x = c .before .before .before .before .before in
+    let y = c .before .before .before .before .row-of2 in
+    let k = c .before .before .before .class-of in
+    let r = c .before .before .rounding-of in
+    let g = c .before .range-of in
+    let a = x .before .args in
+    settings-are (a .from) (a .to) (a .rounding) (a .range) (a .keys) (k .result) (x .row-of .result) (y .result) (r .result) (g .result) (k .ensures) (x .row-of .ensures) (y .ensures) (r .ensures) (g .ensures)
 
 pub settings-of-spec : {M : Type 1} → statement M
 settings-of-spec =
@@ -33,7 +46,8 @@ settings-of-spec =
     (tie.spec
     row-of-requires
     row-of-requires-2
+    class-of-requires
     rounding-of-requires
     range-of-requires
-    div-t10
+    div-t11
     returns)

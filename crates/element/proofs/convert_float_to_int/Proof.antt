@@ -1,4 +1,4 @@
--- `element::convert_float_to_int` meets its contract: refusal 5 for what is not finite, and otherwise the range step of the rounded element's whole part.
+-- `element::convert_float_to_int` meets its contract: refusal 5 for what is not finite, and otherwise the range step of the rounded element.
 -- Assumes nothing.
 use mathlib.Core.Path.{sym, ap, _∙_}
 use Rattle.kinds.specs.Row.{integerOf}
@@ -14,11 +14,8 @@ float-as-f64-requires c κs = search needs
 returns : tie.Need-returns
 returns c = let t = c .before .before in let a = t .args in let v = c .before .float-as-f64 in not-finite (a .from) (a .b) (t .pre .0) (a .to .signed) (a .to .bits) (a .mode) (a .range) (v .result) (v .ensures) (c .if1 .taken)
 
-round-float-requires : tie.Need-round-float-requires
-round-float-requires c κs = search needs
-
-whole-f64-requires : tie.Need-whole-f64-requires
-whole-f64-requires c κs = search needs
+round-to-whole-requires : tie.Need-round-to-whole-requires
+round-to-whole-requires c κs = search needs
 
 hold-requires : tie.Need-hold-requires
 hold-requires c κs = search needs
@@ -33,10 +30,24 @@ out-of-range-requires : tie.Need-out-of-range-requires
 out-of-range-requires c κs = search needs
 
 returns-2 : tie.Need-returns-2
-returns-2 c = let t = c .before .before .before .before .before .before .before .before in let a = t .args in let v = c .before .before .before .before .before .before .before .float-as-f64 in ap (fitted (integerOf (a .to)) (v .result)) (sym (c .before .pattern .given .1)) ∙ held-whole (a .from) (a .b) (t .pre .0) (a .to .signed) (a .to .bits) (a .mode) (a .range) (v .result) (v .ensures) (c .before .before .before .before .before .before .if1 .left) (c .before .before .before .before .before .round-float .result) (c .before .before .before .before .before .round-float .ensures) (c .before .before .before .before .whole-f64 .result) (c .before .before .before .before .whole-f64 .ensures) (c .before .before .before .hold .result) (c .before .before .before .hold .ensures)
+returns-2 c =
+    let e = c .before .before .before .before .before in
+    let v = e .before .float-as-f64 in
+    let t = e .before .before in
+    let a = t .args in
+    let w = c .before .before .before .before .round-to-whole in
+    let g = c .before .before .before .hold in
+    ap (fitted (integerOf (a .to)) (v .result)) (sym (c .before .pattern .given .1)) ∙ held-whole (a .from) (a .b) (t .pre .0) (a .to .signed) (a .to .bits) (a .mode) (a .range) (v .result) (v .ensures) (e .if1 .left) (w .result) (w .ensures) (g .result) (g .ensures)
 
 returns-3 : tie.Need-returns-3
-returns-3 c = let t = c .before .before .before .before .before .before .before .before in let a = t .args in let v = c .before .before .before .before .before .before .before .float-as-f64 in c .out-of-range .ensures ∙ ap (fitted (integerOf (a .to)) (v .result)) (sym (c .before .enum-told .given .1)) ∙ held-whole (a .from) (a .b) (t .pre .0) (a .to .signed) (a .to .bits) (a .mode) (a .range) (v .result) (v .ensures) (c .before .before .before .before .before .before .if1 .left) (c .before .before .before .before .before .round-float .result) (c .before .before .before .before .before .round-float .ensures) (c .before .before .before .before .whole-f64 .result) (c .before .before .before .before .whole-f64 .ensures) (c .before .before .before .hold .result) (c .before .before .before .hold .ensures)
+returns-3 c =
+    let e = c .before .before .before .before .before in
+    let v = e .before .float-as-f64 in
+    let t = e .before .before in
+    let a = t .args in
+    let w = c .before .before .before .before .round-to-whole in
+    let g = c .before .before .before .hold in
+    c .out-of-range .ensures ∙ ap (fitted (integerOf (a .to)) (v .result)) (sym (c .before .enum-told .given .1)) ∙ held-whole (a .from) (a .b) (t .pre .0) (a .to .signed) (a .to .bits) (a .mode) (a .range) (v .result) (v .ensures) (e .if1 .left) (w .result) (w .ensures) (g .result) (g .ensures)
 
 pub convert-float-to-int-spec : {M : Type 1} → statement M
 convert-float-to-int-spec =
@@ -44,8 +55,7 @@ convert-float-to-int-spec =
     (tie.spec
     float-as-f64-requires
     returns
-    round-float-requires
-    whole-f64-requires
+    round-to-whole-requires
     hold-requires
     enum-known-pattern
     enum-told

@@ -1,7 +1,7 @@
 -- `rounding::round_magnitude` meets its contract: at each return one of the three laws of a rounding to a whole number.
 -- Assumes nothing.
 use Rattle.grid.specs.Round.{ruleFor}
-use Rattle.rounding.proofs.Whole.{already, kept-asks, kept-is, quarter-asks, below-one-fits, below-one-is}
+use Rattle.rounding.proofs.WholeBits.{already, kept-asks, kept-is, quarter-asks, below-one-fits, below-one-is}
 use borrow.Author.Needs.{needs}
 use Rattle.rounding.proofs.round_magnitude.Statement.{statement}
 use Rattle.rounding.proofs.round_magnitude.Tie as tie
