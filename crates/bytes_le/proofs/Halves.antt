@@ -1,9 +1,9 @@
 -- A number's bytes are those of its two halves: one law for every width.
 -- Assumes nothing.
-use mathlib.Core.Path.{_≡_, refl, sym, ap, _∙_}
+use mathlib.Core.Path.{_≡_, refl, sym, ap, ap₂, _∙_}
 use mathlib.Core.List.{List, [], _∷_, _++_, append-nil}
-use Prim.Native.Nat.{ℕ, zero, suc, _+_, _*_, _/_, _%_, _^_}
-use native.Mathlib.Nat.{pow-suc, mul-comm, div-div-eq-div-mul, div-one}
+use Prim.Native.Nat.{ℕ, zero, suc, _+_, _*_, _/_, _%_, _^_, _<_}
+use native.Mathlib.Nat.{lt-of-lt-of-le, mul-le-mul-right, pow-suc, mul-comm, div-div-eq-div-mul, div-one}
 use native.Mathlib.Omega.{arith}
 use lib.ListN.{length, getD, set, take, drop, length-drop, take-append-drop}
 use lib.Seq.{take-at, drop-at, take-all, drop-length, drop-drop, length-take-le}
@@ -11,7 +11,7 @@ use Rattle.bytes_le.specs.Bytes.{fromLe, toLe}
 use Rattle.bytes_le.proofs.Sums.{fromLe-append, fromLe-cons, length-toLe}
 
 -- ---- reading
-pub fromLe-halves : (s : List ℕ) (k : ℕ) → length s ≡ k + k → fromLe (take k s) + fromLe (take k (drop k s)) * 256 ^ k ≡ fromLe s
+fromLe-halves : (s : List ℕ) (k : ℕ) → length s ≡ k + k → fromLe (take k s) + fromLe (take k (drop k s)) * 256 ^ k ≡ fromLe s
 fromLe-halves s k h =
     let a : take k (drop k s) ≡ drop k s = take-all k (drop k s) (simp length-drop (omega arith)) in
     let b : length (take k s) ≡ k = length-take-le k s (omega arith) in
@@ -20,6 +20,15 @@ fromLe-halves s k h =
     ∙ ap (λ (z : ℕ). fromLe (take k s) + 256 ^ z * fromLe (drop k s)) (sym b)
     ∙ sym (fromLe-append (take k s) (drop k s))
     ∙ ap fromLe (take-append-drop k s)
+
+-- what a program reads: the low half, and the high half times 256 to the count of bytes in front of it
+pub read-halves : (s : List ℕ) (k lo hi : ℕ) → length s ≡ k + k → (lo ≡ fromLe (take k s)) × (lo < 256 ^ k) → (hi ≡ fromLe (take k (drop k s))) × (hi < 256 ^ k)
+    → (lo + hi * 256 ^ k ≡ fromLe s) × (lo + hi * 256 ^ k < 256 ^ k * 256 ^ k)
+read-halves s k lo hi h l u =
+    (ap₂ (λ (x y : ℕ). x + y * 256 ^ k) (l .0) (u .0) ∙ fromLe-halves s k h, lt-of-lt-of-le (below lo hi (256 ^ k) (l .1)) (mul-le-mul-right (256 ^ k) (u .1)))
+  where
+    below : (a b p : ℕ) → a < p → a + b * p < suc b * p
+    below a b p h = omega arith
 
 pub one : (s : List ℕ) → length s ≡ 1 → getD s 0 0 ≡ fromLe s
 one [] h = absurd (omega arith)

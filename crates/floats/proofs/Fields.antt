@@ -8,7 +8,7 @@ use native.Mathlib.Omega.{arith}
 use lib.Arith.{digits-lt}
 use lib.Bits.{bitAnd, and-mask}
 use lib.Dec.{eqb, leb}
-use lib.Pow.{pow-pos, mod-pow-add, field, mod-mod-pow}
+use lib.Pow.{pow-pos, pow-mono, mod-pow-add, field, mod-mod-pow}
 use borrow.Author.Tests.{le-leb, lt-leb, lt-ltb, le-ltb, eq-eqb, ne-eqb, eqb-true, eqb-false}
 use Rattle.grid.specs.Round.{signed}
 use Rattle.grid.proofs.Neighbours.{cut, pow-twice-pred}
@@ -16,7 +16,9 @@ use Rattle.patterns.specs.Float.{fieldMag, bitsMag, infBits}
 use Rattle.patterns.specs.Kind.{binary}
 use Rattle.patterns.specs.Value.{nan, inf, num, negative, floatValue, valueOf}
 use Rattle.floats.specs.Parts.{fieldOf, fractionOf, partsOf}
-use Rattle.floats.specs.Class.{classFrom, classOf, classValue}
+use Rattle.floats.specs.Class.{rangeOf, classBy, Sorted, classFrom, classOf, classValue}
+use Rattle.floats.specs.declared.FieldRange.{FieldRange}
+use Rattle.floats.specs.declared.FieldRange.the-variants.{Subnormal, Normal, Special}
 use Rattle.floats.specs.declared.Parts.{Parts}
 use Rattle.floats.specs.declared.Class.the-variants.{Finite, Infinite, NotANumber}
 
@@ -77,6 +79,20 @@ module _ (p w s : ℕ) (neg : Bool) (x : ℕ) where
   pub is-nan : infBits p w < x → floatValue p w s neg x ≡ nan
   is-nan h = simp (le-ltb x (infBits p w) (omega arith), ne-eqb x (infBits p w) (λ (e : x ≡ infBits p w). omega arith))
 
+-- ---- the three ranges of an exponent field
+module _ (w x : ℕ) where
+  pub range-subnormal : x ≡ 0 → Subnormal ≡ rangeOf w x
+  range-subnormal e = simp (eq-eqb x 0 e)
+
+  pub range-normal : 0 < x → x < 2 ^ w - 1 → Normal ≡ rangeOf w x
+  range-normal h l = simp (ne-eqb x 0 (λ (e : x ≡ 0). omega arith), lt-ltb x (2 ^ w - 1) l)
+
+  pub range-special : 0 < x → 2 ^ w - 1 ≤ x → Special ≡ rangeOf w x
+  range-special h l = simp (ne-eqb x 0 (λ (e : x ≡ 0). omega arith), le-ltb x (2 ^ w - 1) l)
+
+  normal-some : rangeOf w x ≡ Normal → 0 < x
+  normal-some e = cut 0 x (λ (h : 0 < x). h) (λ (h : x ≤ 0). let s : Subnormal ≡ Normal = range-subnormal (omega arith) ∙ e in let z : _≡_ {A = ℕ} 0 1 = cc in absurd (omega arith))
+
 -- ---- the four classes
 module _ (p w x t : ℕ) where
   pub class-subnormal : x ≡ 0 → classFrom p w x t ≡ Finite t 0
@@ -101,6 +117,25 @@ module _ (p w b : ℕ) {q : Parts} (is : q ≡ partsOf p w b) where
 
   pub fraction-is : q .fraction ≡ fractionOf p b
   fraction-is = ap (λ (z : Parts). z .fraction) is
+
+  -- with the range of the exponent field, and the leading bit
+  module _ {r : FieldRange} (sorted : r ≡ rangeOf w (q .exponent)) where
+    pub sorted-parts : 0 < p → p ≤ 53 → Sorted q r (2 ^ (p - 1))
+    sorted-parts some few = record {
+      small = omega (arith, fraction-is, fraction-lt p w b some);
+      room = pow-mono {j = 52} (omega arith);
+      normal = λ (e : r ≡ Normal). normal-some w (q .exponent) (sym sorted ∙ e);
+    }
+
+    pub class-sorted : classBy r (2 ^ (p - 1)) (q .exponent) (q .fraction) ≡ classOf p w b
+    class-sorted = ap (λ (z : FieldRange). classBy z (2 ^ (p - 1)) (q .exponent) (q .fraction)) sorted ∙ class-parts
+
+-- a program's test of the fraction
+pub special-infinite : (h x t : ℕ) → t ≡ 0 → Infinite ≡ classBy Special h x t
+special-infinite h x t e = simp (eq-eqb t 0 e)
+
+pub special-nan : (h x t : ℕ) → (t ≡ 0 → ⊥) → NotANumber ≡ classBy Special h x t
+special-nan h x t n = simp (ne-eqb t 0 n)
 
 -- ---- the class and the sign are the value
 pub class-value : (p w s b : ℕ) → 2 ≤ p → 0 < w → classValue s (negative (binary p w s) b) (classOf p w b) ≡ valueOf (binary p w s) b

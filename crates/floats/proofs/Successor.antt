@@ -18,28 +18,28 @@ use Rattle.patterns.specs.Pattern.{withSign}
 use Rattle.patterns.proofs.Encode.{bits-mono}
 use Rattle.patterns.proofs.Floats.{abs-signed}
 use Rattle.patterns.proofs.Floats as floats
-use Rattle.floats.specs.Next.{LeastAbove, NextUp, upFrom, nextUp}
+use Rattle.floats.specs.Next.{LeastAbove, NextUp, upBy, upFrom, nextUp}
 use Rattle.floats.proofs.Fields.{is-num, is-inf, is-nan}
 use Rattle.floats.proofs.Ranks.{no-bits, below-ranks, ranks-below}
 
--- ---- the cases of `upFrom`
-module _ (p w b x : ℕ) where
-  pub up-nan : infBits p w < x → upFrom p w b x ≡ b
-  up-nan h = simp (lt-ltb (infBits p w) x h)
+-- ---- the cases of `upBy`
+module _ (i h b x : ℕ) where
+  pub up-nan : i < x → upBy i h b x ≡ b
+  up-nan l = simp (lt-ltb i x l)
 
-  module _ (small : x ≤ infBits p w) where
-    pub up-infinite : b ≡ infBits p w → upFrom p w b x ≡ b
-    up-infinite e = simp (le-ltb (infBits p w) x small, eq-eqb b (infBits p w) e)
+  module _ (small : x ≤ i) where
+    pub up-infinite : b ≡ i → upBy i h b x ≡ b
+    up-infinite e = simp (le-ltb i x small, eq-eqb b i e)
 
-    module _ (other : b ≡ infBits p w → ⊥) where
-      pub up-zero : x ≡ 0 → upFrom p w b x ≡ 1
-      up-zero e = simp (le-ltb (infBits p w) x small, ne-eqb b (infBits p w) other, eq-eqb x 0 e)
+    module _ (other : b ≡ i → ⊥) where
+      pub up-zero : x ≡ 0 → upBy i h b x ≡ 1
+      up-zero e = simp (le-ltb i x small, ne-eqb b i other, eq-eqb x 0 e)
 
-      pub up-negative : (x ≡ 0 → ⊥) → 2 ^ (w + p - 1) ≤ b → upFrom p w b x ≡ b - 1
-      up-negative n h = simp (le-ltb (infBits p w) x small, ne-eqb b (infBits p w) other, ne-eqb x 0 n, le-leb (2 ^ (w + p - 1)) b h)
+      pub up-negative : (x ≡ 0 → ⊥) → h ≤ b → upBy i h b x ≡ b - 1
+      up-negative n l = simp (le-ltb i x small, ne-eqb b i other, ne-eqb x 0 n, le-leb h b l)
 
-      pub up-positive : (x ≡ 0 → ⊥) → b < 2 ^ (w + p - 1) → upFrom p w b x ≡ b + 1
-      up-positive n h = simp (le-ltb (infBits p w) x small, ne-eqb b (infBits p w) other, ne-eqb x 0 n, lt-leb (2 ^ (w + p - 1)) b h)
+      pub up-positive : (x ≡ 0 → ⊥) → b < h → upBy i h b x ≡ b + 1
+      up-positive n l = simp (le-ltb i x small, ne-eqb b i other, ne-eqb x 0 n, lt-leb h b l)
 
 -- the bits below the sign by a mask
 pub masked : (p w b : ℕ) → upFrom p w b (bitAnd b (2 ^ (w + p - 1) - 1)) ≡ nextUp p w b
@@ -126,11 +126,11 @@ module _ (p w s b : ℕ) (two : 2 ≤ p) (one : 0 < w) (fit : b < 2 ^ (w + p)) w
   unfolding nextUp
   up-least small other = cut 0 x
       (λ (some : 0 < x). let n : (x ≡ 0 → ⊥) = λ e. omega arith in cut b H
-      (λ (l : b < H). subst (LeastAbove (binary p w s) b) (sym (up-positive p w b x small other n l ∙ ap (λ (z : ℕ). z + 1) (sym (lowest-is l))))
+      (λ (l : b < H). subst (LeastAbove (binary p w s) b) (sym (up-positive I H b x small other n l ∙ ap (λ (z : ℕ). z + 1) (sym (lowest-is l))))
       (least small false (x + 1) (low-room l) (positive-step neg x (lt-leb H b l)) (λ (e : x + 1 ≡ 0). absurd (omega arith))))
-      (λ (l : H ≤ b). subst (LeastAbove (binary p w s) b) (sym (up-negative p w b x small other n l ∙ omega (arith, high-is l)))
+      (λ (l : H ≤ b). subst (LeastAbove (binary p w s) b) (sym (up-negative I H b x small other n l ∙ omega (arith, high-is l)))
       (least small true (x - 1) (omega arith) (negative-step neg x (le-leb H b l) n) (λ _. sym (le-leb H b l)))))
-      (λ (none : x ≤ 0). let z : x ≡ 0 = omega arith in subst (LeastAbove (binary p w s) b) (sym (up-zero p w b x small other z))
+      (λ (none : x ≤ 0). let z : x ≡ 0 = omega arith in subst (LeastAbove (binary p w s) b) (sym (up-zero I H b x small other z))
       (least small false 1 inf-some (zero-step neg x z) (λ (e : 1 ≡ 0). absurd (omega arith))))
     where
       low-room : b < H → x + 1 ≤ I
@@ -138,11 +138,11 @@ module _ (p w s b : ℕ) (two : 2 ≤ p) (one : 0 < w) (fit : b < 2 ^ (w + p)) w
 
   nan-stays : I < x → nextUp p w b ≡ b
   unfolding nextUp
-  nan-stays l = up-nan p w b x l
+  nan-stays l = up-nan I H b x l
 
   infinite-stays : x ≤ I → b ≡ I → nextUp p w b ≡ b
   unfolding nextUp
-  infinite-stays l e = up-infinite p w b x l e
+  infinite-stays l e = up-infinite I H b x l e
 
   pub next-up-is : NextUp (binary p w s) b (nextUp p w b)
   unfolding valueOf

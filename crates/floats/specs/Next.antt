@@ -2,7 +2,7 @@
 -- Assumes nothing.
 use mathlib.Core.Path.{_≡_}
 use mathlib.Core.Bool.{true, false, not, cond}
-use Prim.Native.Nat.{ℕ, _+_, _-_, _%_, _^_, _<_}
+use Prim.Native.Nat.{ℕ, _+_, _-_, _%_, _^_, _≤_, _<_}
 use lib.Dec.{T, eqb, ltb, leb}
 use lib.IntN.{pos}
 use lib.Signed.{_<ℤ_}
@@ -56,8 +56,18 @@ abbrev pub NextDown : Kind → ℕ → ℕ → Type 0
 NextDown k b r = DownFrom (valueOf k b) k b r
 
 -- ---- on patterns: b with the bits x below its sign. A NaN's and +infinity's own, 1 from a zero, and else a step away from or to zero.
+-- i is the infinity's pattern, and h the sign's bit alone.
+abbrev pub upBy : ℕ → ℕ → ℕ → ℕ → ℕ
+upBy i h b x = cond (ltb i x) b (cond (eqb b i) b (cond (eqb x 0) 1 (cond (leb h b) (b - 1) (b + 1))))
+
 abbrev pub upFrom : ℕ → ℕ → ℕ → ℕ → ℕ
-upFrom p w b x = cond (ltb (infBits p w) x) b (cond (eqb b (infBits p w)) b (cond (eqb x 0) 1 (cond (leb (2 ^ (w + p - 1)) b) (b - 1) (b + 1))))
+upFrom p w b x = upBy (infBits p w) (2 ^ (w + p - 1)) b x
+
+-- a pattern of a format whose sign's bit is h
+pub record SignBit (b h : ℕ) : Type 0 where
+  pub some : 0 < h
+  pub most : h ≤ 2 ^ 63
+  pub fits : b < h + h
 
 unfoldable pub nextUp : ℕ → ℕ → ℕ → ℕ
 nextUp p w b = upFrom p w b (b % 2 ^ (w + p - 1))

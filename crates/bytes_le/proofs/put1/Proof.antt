@@ -7,17 +7,8 @@ use borrow.Author.Needs.{needs}
 use Rattle.bytes_le.proofs.put1.Statement.{statement}
 use Rattle.bytes_le.proofs.put1.Tie as tie
 
-cast-d : tie.Need-cast-d
-cast-d c = search needs
-
-slice-write-d : tie.Need-slice-write-d
-slice-write-d c = search needs
-
-same-length : tie.Need-same-length
-same-length c = search needs
-
 returns : tie.Need-returns
 returns c = set-one (now (c .args .d)) (c .args .v % 256) (c .pre)
 
 pub put1-spec : {M : Type 1} → statement M
-put1-spec = tie.close (tie.spec cast-d slice-write-d same-length returns)
+put1-spec = tie.close (tie.spec (λ c. search needs) (λ c. search needs) (λ c. search needs) returns)

@@ -69,9 +69,6 @@ counts c =
 same-counts : (c : tie.Else4) → let u = c .before .before .before .before .before .before .before in let a = start (u .before .before) .args in length (now (a .src)) / settings u .sw ≡ length (now (a .dst)) / settings u .dw
 same-counts c = c .if4 .left
 
-codes-listed-requires : tie.Need-codes-listed-requires
-codes-listed-requires c κs = search needs
-
 returns : tie.Need-returns
 returns c = unknown (given (c .before)) (sym (c .before .codes-listed .ensures) ∙ not-true (c .before .codes-listed .result) (c .if1 .taken))
 
@@ -116,9 +113,6 @@ run-requires c κs =
     subst (λ (s : Settings). RunIn s (now (a .keys)) (now (a .targets)) (now (a .src)) (now (a .dst)) 0 (length (now (a .src)) / s .sw)) (sym (is-settings u))
     (run-asks (given (e .before)) (listed e) (map-whole m) (bytes-whole b) (sym (k .0) ∙ same-counts (c .before) ∙ k .1))
 
-same-length : tie.Need-same-length
-same-length c = search needs
-
 returns-5 : tie.Need-returns-5
 returns-5 c =
     let x = c .before .before in
@@ -132,19 +126,4 @@ returns-5 c =
     (subst (λ (s : Settings). Ran (settingsFor s (now (a .keys)) (now (a .targets))) (s .sw) (s .dw) (now (a .src)) (now (a .dst)) 0 (length (now (a .src)) / s .sw) (x .run .result) (x .run .last .1 .0)) (is-settings u) (x .run .ensures))
 
 pub convert-spec : {M : Type 1} → statement M
-convert-spec =
-    tie.close
-    (tie.spec
-    codes-listed-requires
-    returns
-    settings-of-requires
-    whole-map-requires
-    returns-2
-    whole-elements-requires
-    returns-3
-    div-n
-    div-m
-    returns-4
-    run-requires
-    same-length
-    returns-5)
+convert-spec = tie.close (tie.spec (λ c κs. search needs) returns settings-of-requires whole-map-requires returns-2 whole-elements-requires returns-3 div-n div-m returns-4 run-requires (λ c. search needs) returns-5)

@@ -16,21 +16,6 @@ use Rattle.chunk.proofs.refusal.Tie as tie
 low-back : (c : tie.After-known-told2) → toZ w64 (ofZ w64 (c .before .o2 .given .0 .1 .0)) ≡ c .before .o2 .given .0 .1 .0
 low-back c = search needs
 
-enum-told : tie.Need-enum-told
-enum-told c = search needs
-
-enum-known-o : tie.Need-enum-known-o
-enum-known-o c = search needs
-
-enum-known-o-2 : tie.Need-enum-known-o-2
-enum-known-o-2 c = search needs
-
-enum-known-o-3 : tie.Need-enum-known-o-3
-enum-known-o-3 c = search needs
-
-returns : tie.Need-returns
-returns c = search needs
-
 returns-2 : tie.Need-returns-2
 returns-2 c = let a = c .before .before .before .args in ap (λ (o : Outcome). answerNext o (a .position) Converted) (sym (c .before .o .given .1))
 
@@ -41,14 +26,4 @@ returns-4 : tie.Need-returns-4
 returns-4 c = let a = c .before .before .before .args in ap (λ (o : Outcome). answerNext o (a .position) Converted) (sym (c .before .o3 .given .1))
 
 pub refusal-spec : {M : Type 1} → statement M
-refusal-spec =
-    tie.close
-    (tie.spec
-    enum-told
-    enum-known-o
-    enum-known-o-2
-    enum-known-o-3
-    returns
-    returns-2
-    returns-3
-    returns-4)
+refusal-spec = tie.close (tie.spec (λ c. search needs) (λ c. search needs) (λ c. search needs) (λ c. search needs) (λ c. search needs) returns-2 returns-3 returns-4)

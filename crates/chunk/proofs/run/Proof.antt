@@ -82,9 +82,6 @@ convert-at-requires c κs =
     let l = c .before .before .loop in
     turn-asks (a .s) (now (a .keys)) (now (a .targets)) (now (a .src)) (now (a .dst)) (a .first) (a .end) (t .pre) (l .i) (l .at) (l .to) (l .dst) (l .inv) (c .before .loop-test .taken)
 
-enum-told : tie.Need-enum-told Inv-loop μ-loop
-enum-told c = search needs
-
 refusal-requires : tie.Need-refusal-requires Inv-loop μ-loop
 refusal-requires c κs = tt
 
@@ -105,12 +102,6 @@ add-at c = record { fits = omega (arith, in-source (c .before .before .before .b
 add-to : tie.Need-add-to Inv-loop μ-loop
 add-to c = let u = c .before .before .before .before in record { fits = omega (arith, in-target u, u .before .before .before .loop .inv .same) }
 
-add-i : tie.Need-add-i Inv-loop μ-loop
-add-i c = omega arith
-
-loop-less : tie.Need-loop-less Inv-loop μ-loop
-loop-less c = omega arith
-
 loop-again : tie.Need-loop-again Inv-loop μ-loop
 loop-again c = went-on (c .before .before .before .before) (c .enum-told .given .0 .0) (c .enum-told .given .1)
 
@@ -125,23 +116,4 @@ returns-2 c =
     record { answer = f .0; bytes = f .1 }
 
 pub run-spec : {M : Type 1} → statement M
-run-spec =
-    tie.close
-    (tie.spec
-    Inv-loop
-    μ-loop
-    mul-at
-    mul-to
-    loop-holds
-    convert-at-requires
-    enum-told
-    refusal-requires
-    same-length
-    returns
-    add-at
-    add-to
-    add-i
-    loop-less
-    loop-again
-    same-length-2
-    returns-2)
+run-spec = tie.close (tie.spec Inv-loop μ-loop mul-at mul-to loop-holds convert-at-requires (λ c. search needs) refusal-requires same-length returns add-at add-to (λ c. omega arith) (λ c. omega arith) loop-again same-length-2 returns-2)

@@ -9,21 +9,6 @@ use borrow.Author.Needs.{needs}
 use Rattle.chunk.proofs.settings_of.Statement.{statement}
 use Rattle.chunk.proofs.settings_of.Tie as tie
 
-row-of-requires : tie.Need-row-of-requires
-row-of-requires c κs = search needs
-
-row-of-requires-2 : tie.Need-row-of-requires-2
-row-of-requires-2 c κs = search needs
-
-class-of-requires : tie.Need-class-of-requires
-class-of-requires c κs = search needs
-
-rounding-of-requires : tie.Need-rounding-of-requires
-rounding-of-requires c κs = search needs
-
-range-of-requires : tie.Need-range-of-requires
-range-of-requires c κs = search needs
-
 div-t11 : tie.Need-div-t11
 div-t11 c =
     let x = c .before .before .before .before .before in
@@ -41,13 +26,4 @@ returns c =
     settings-are (a .from) (a .to) (a .rounding) (a .range) (a .keys) (k .result) (x .row-of .result) (y .result) (r .result) (g .result) (k .ensures) (x .row-of .ensures) (y .ensures) (r .ensures) (g .ensures)
 
 pub settings-of-spec : {M : Type 1} → statement M
-settings-of-spec =
-    tie.close
-    (tie.spec
-    row-of-requires
-    row-of-requires-2
-    class-of-requires
-    rounding-of-requires
-    range-of-requires
-    div-t11
-    returns)
+settings-of-spec = tie.close (tie.spec (λ c κs. search needs) (λ c κs. search needs) (λ c κs. search needs) (λ c κs. search needs) (λ c κs. search needs) div-t11 returns)

@@ -7,14 +7,8 @@ use borrow.Author.Needs.{needs}
 use Rattle.element.proofs.clamp.Statement.{statement}
 use Rattle.element.proofs.clamp.Tie as tie
 
-returns : tie.Need-returns
-returns c = search needs
-
-least-requires : tie.Need-least-requires
-least-requires c κs = search needs
-
 returns-2 : tie.Need-returns-2
 returns-2 c = let a = c .before .before .args in c .least .ensures ∙ ap (λ (t : Bool). cond t (a .end) (min (a .magnitude) (a .end))) (sym (c .before .if1 .left))
 
 pub clamp-spec : {M : Type 1} → statement M
-clamp-spec = tie.close (tie.spec returns least-requires returns-2)
+clamp-spec = tie.close (tie.spec (λ c. search needs) (λ c κs. search needs) returns-2)

@@ -13,18 +13,12 @@ use borrow.Author.Needs.{needs}
 use Rattle.element.proofs.convert_element.Statement.{statement}
 use Rattle.element.proofs.convert_element.Tie as tie
 
-enum-told : tie.Need-enum-told
-enum-told c = search needs
-
 convert-int-to-int-requires : tie.Need-convert-int-to-int-requires
 convert-int-to-int-requires c κs =
     let t = c .before .before in
     let a = t .args in
     let s = sides (a .from) (a .to) (a .class) IntToInt (t .pre .2) (c .enum-told .given .1) in
     (source-pattern (a .b) (a .from) (a .source) (t .pre .0) (s .0) (t .pre .3), integer-row (a .to) (s .1) (a .target) (t .pre .4))
-
-enum-told-2 : tie.Need-enum-told-2
-enum-told-2 c = search needs
 
 convert-int-to-float-requires : tie.Need-convert-int-to-float-requires
 convert-int-to-float-requires c κs =
@@ -33,18 +27,12 @@ convert-int-to-float-requires c κs =
     let s = sides (a .from) (a .to) (a .class) IntToFloat (t .pre .2) (c .enum-told2 .given .1) in
     (source-pattern (a .b) (a .from) (a .source) (t .pre .0) (s .0) (t .pre .3), s .1, omega (arith, t .pre .1))
 
-enum-told-3 : tie.Need-enum-told-3
-enum-told-3 c = search needs
-
 convert-float-to-int-requires : tie.Need-convert-float-to-int-requires
 convert-float-to-int-requires c κs =
     let t = c .before .before in
     let a = t .args in
     let s = sides (a .from) (a .to) (a .class) FloatToInt (t .pre .2) (c .enum-told3 .given .1) in
     (record { least = s .0; most = omega (arith, t .pre .0 .listed); fits = t .pre .0 .fits }, integer-row (a .to) (s .1) (a .target) (t .pre .4))
-
-enum-told-4 : tie.Need-enum-told-4
-enum-told-4 c = search needs
 
 convert-float-to-float-requires : tie.Need-convert-float-to-float-requires
 convert-float-to-float-requires c κs =
@@ -74,22 +62,5 @@ returns-3 c =
     let s = sides (a .from) (a .to) (a .class) FloatToInt (t .pre .2) (c .before .enum-told3 .given .1) in
     c .convert-float-to-int .ensures ∙ ap (λ (k : Kind). unmapped (kindOf (a .from)) k (a .mode) (a .range) (a .b)) (integer-of (a .to) (s .1) (a .target) (t .pre .4))
 
-returns-4 : tie.Need-returns-4
-returns-4 c = search needs
-
 pub convert-element-spec : {M : Type 1} → statement M
-convert-element-spec =
-    tie.close
-    (tie.spec
-    enum-told
-    convert-int-to-int-requires
-    enum-told-2
-    convert-int-to-float-requires
-    enum-told-3
-    convert-float-to-int-requires
-    enum-told-4
-    convert-float-to-float-requires
-    returns
-    returns-2
-    returns-3
-    returns-4)
+convert-element-spec = tie.close (tie.spec (λ c. search needs) convert-int-to-int-requires (λ c. search needs) convert-int-to-float-requires (λ c. search needs) convert-float-to-int-requires (λ c. search needs) convert-float-to-float-requires returns returns-2 returns-3 (λ c. search needs))

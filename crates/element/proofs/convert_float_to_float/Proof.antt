@@ -19,18 +19,11 @@ returns c = let t = c .before in let a = t .args in same-code (a .b) (a .from) (
 cast-widen : tie.Need-cast-widen
 cast-widen c = let t = c .before .before in let a = t .args in record { fits = subst (λ (z : ℕ). a .b < 2 ^ bits (kindOf z)) (c .if2 .taken) (t .pre .0 .fits) }
 
-widen-requires : tie.Need-widen-requires
-widen-requires c κs = search needs
-
 returns-2 : tie.Need-returns-2
 returns-2 c = let t = c .before .before .before in let a = t .args in let f = c .before .if2 .taken in let o = other-nine (a .from) (a .to) f (t .pre .1) (t .pre .2) (c .before .before .if1 .left) in ap Stored (c .widen .ensures) ∙ widened (a .b) (a .mode) (a .range) ∙ ap₂ (λ (i j : ℕ). unmapped (kindOf i) (kindOf j) (a .mode) (a .range) (a .b)) (sym f) (sym o)
-
-narrow-requires : tie.Need-narrow-requires
-narrow-requires c κs = search needs
 
 returns-3 : tie.Need-returns-3
 returns-3 c = let t = c .before .before .before in let a = t .args in let f = nine-of (a .from) (t .pre .0 .least) (t .pre .0 .most) (c .before .if2 .left) in let o = other-eight (a .from) (a .to) f (t .pre .1) (t .pre .2) (c .before .before .if1 .left) in c .narrow .ensures ∙ ap₂ (λ (i j : ℕ). unmapped (kindOf i) (kindOf j) (a .mode) (a .range) (a .b)) (sym f) (sym o)
 
 pub convert-float-to-float-spec : {M : Type 1} → statement M
-convert-float-to-float-spec =
-    tie.close (tie.spec returns cast-widen widen-requires returns-2 narrow-requires returns-3)
+convert-float-to-float-spec = tie.close (tie.spec returns cast-widen (λ c κs. search needs) returns-2 (λ c κs. search needs) returns-3)

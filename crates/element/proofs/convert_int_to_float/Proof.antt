@@ -12,21 +12,12 @@ use Rattle.element.proofs.convert_int_to_float.Tie as tie
 eight : (c : tie.Else1) → c .before .before .args .to ≡ 8
 eight c = let t = c .before .before in eight-of (t .args .to) (t .pre .1) (t .pre .2) (c .if1 .left)
 
-int-magnitude-requires : tie.Need-int-magnitude-requires
-int-magnitude-requires c κs = search needs
-
-int-to-f64-bits-requires : tie.Need-int-to-f64-bits-requires
-int-to-f64-bits-requires c κs = search needs
-
 returns : tie.Need-returns
 returns c =
     let t = c .before .before .before in
     let a = t .args in
     let x = c .before .before .int-magnitude in
     int-to-f64 (a .b) (a .from .signed) (a .from .bits) (t .pre .0) (x .result) (x .ensures) (a .mode) (c .int-to-f64-bits .result) (a .to) (c .before .if1 .taken) (c .int-to-f64-bits .ensures)
-
-int-to-f64-bits-requires-2 : tie.Need-int-to-f64-bits-requires-2
-int-to-f64-bits-requires-2 c κs = search needs
 
 narrow-held-requires : tie.Need-narrow-held-requires
 narrow-held-requires c κs =
@@ -44,12 +35,4 @@ returns-2 c =
     λ range. c .narrow-held .ensures (a .mode) None ∙ int-to-f32 (a .b) (a .from .signed) (a .from .bits) (t .pre .0) (x .result) (x .ensures) (a .mode) (v .result) (v .ensures) (a .to) (eight (c .before .before)) range
 
 pub convert-int-to-float-spec : {M : Type 1} → statement M
-convert-int-to-float-spec =
-    tie.close
-    (tie.spec
-    int-magnitude-requires
-    int-to-f64-bits-requires
-    returns
-    int-to-f64-bits-requires-2
-    narrow-held-requires
-    returns-2)
+convert-int-to-float-spec = tie.close (tie.spec (λ c κs. search needs) (λ c κs. search needs) returns (λ c κs. search needs) narrow-held-requires returns-2)

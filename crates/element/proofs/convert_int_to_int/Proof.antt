@@ -11,24 +11,6 @@ use borrow.Author.Needs.{needs}
 use Rattle.element.proofs.convert_int_to_int.Statement.{statement}
 use Rattle.element.proofs.convert_int_to_int.Tie as tie
 
-int-magnitude-requires : tie.Need-int-magnitude-requires
-int-magnitude-requires c κs = search needs
-
-hold-requires : tie.Need-hold-requires
-hold-requires c κs = search needs
-
-enum-known-pattern : tie.Need-enum-known-pattern
-enum-known-pattern c = search needs
-
-enum-told : tie.Need-enum-told
-enum-told c = search needs
-
-int-to-f64-bits-requires : tie.Need-int-to-f64-bits-requires
-int-to-f64-bits-requires c κs = search needs
-
-out-of-range-requires : tie.Need-out-of-range-requires
-out-of-range-requires c κs = search needs
-
 returns : tie.Need-returns
 returns c = let t = c .before .before .before .before .before in let a = t .args in let x = c .before .before .before .before .int-magnitude in λ mode. ap (fitted (integerOf (a .to)) (asF64 (integerOf (a .from)) (a .b))) (sym (c .before .pattern .given .1)) ∙ held-int (a .b) (a .from .signed) (a .from .bits) (t .pre .0) (x .result) (x .ensures) (a .to .signed) (a .to .bits) (a .range) (c .before .before .before .hold .result) (c .before .before .before .hold .ensures) mode
 
@@ -36,14 +18,4 @@ returns-2 : tie.Need-returns-2
 returns-2 c = let t = c .before .before .before .before .before .before in let a = t .args in let x = c .before .before .before .before .before .int-magnitude in λ mode. c .out-of-range .ensures ∙ ap (λ (v : ℕ). fitted (integerOf (a .to)) v Past) (as-f64-is (a .b) (a .from .signed) (a .from .bits) (t .pre .0) (x .result) (x .ensures) (c .before .int-to-f64-bits .result) (c .before .int-to-f64-bits .ensures)) ∙ ap (fitted (integerOf (a .to)) (asF64 (integerOf (a .from)) (a .b))) (sym (c .before .before .enum-told .given .1)) ∙ held-int (a .b) (a .from .signed) (a .from .bits) (t .pre .0) (x .result) (x .ensures) (a .to .signed) (a .to .bits) (a .range) (c .before .before .before .before .hold .result) (c .before .before .before .before .hold .ensures) mode
 
 pub convert-int-to-int-spec : {M : Type 1} → statement M
-convert-int-to-int-spec =
-    tie.close
-    (tie.spec
-    int-magnitude-requires
-    hold-requires
-    enum-known-pattern
-    enum-told
-    int-to-f64-bits-requires
-    out-of-range-requires
-    returns
-    returns-2)
+convert-int-to-int-spec = tie.close (tie.spec (λ c κs. search needs) (λ c κs. search needs) (λ c. search needs) (λ c. search needs) (λ c κs. search needs) (λ c κs. search needs) returns returns-2)

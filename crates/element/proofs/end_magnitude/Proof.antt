@@ -9,9 +9,6 @@ use Rattle.element.proofs.end_magnitude.Tie as tie
 add-lowest : tie.Need-add-lowest
 add-lowest c = let t = c .before .before in record { fits = raised-fits (t .args .to) (t .pre) (c .before .if1 .taken) }
 
-choose-requires : tie.Need-choose-requires
-choose-requires c κs = search needs
-
 returns : tie.Need-returns
 returns c =
     let t = c .before .before in
@@ -20,4 +17,4 @@ returns c =
     end-is (a .to) (t .pre) (a .negative) (j .lowest) (c .choose .result) (⊎-elim (λ w. inl (w .0 .taken, w .2)) (λ w. inr (w .0 .left, w .1)) (j .came)) (c .choose .ensures)
 
 pub end-magnitude-spec : {M : Type 1} → statement M
-end-magnitude-spec = tie.close (tie.spec add-lowest choose-requires returns)
+end-magnitude-spec = tie.close (tie.spec add-lowest (λ c κs. search needs) returns)

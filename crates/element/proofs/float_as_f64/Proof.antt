@@ -14,9 +14,6 @@ use Rattle.element.proofs.float_as_f64.Tie as tie
 cast-widen : tie.Need-cast-widen
 cast-widen c = let t = c .before in record { fits = subst (λ (z : ℕ). t .args .b < 2 ^ bits (kindOf z)) (c .if1 .taken) (t .pre .fits) }
 
-widen-requires : tie.Need-widen-requires
-widen-requires c κs = search needs
-
 returns : tie.Need-returns
 returns c = let a = c .before .before .args in c .widen .ensures ∙ ap (λ (z : ℕ). asF64 (kindOf z) (a .b)) (sym (c .before .if1 .taken))
 
@@ -24,4 +21,4 @@ returns-2 : tie.Need-returns-2
 returns-2 c = let t = c .before in let a = t .args in let e = nine-of (a .from) (t .pre .least) (t .pre .most) (c .if1 .left) in sym (ap (λ (z : ℕ). asF64 (kindOf z) (a .b)) e ∙ asF64-f64 (a .b) (t .fits .b .fits))
 
 pub float-as-f64-spec : {M : Type 1} → statement M
-float-as-f64-spec = tie.close (tie.spec cast-widen widen-requires returns returns-2)
+float-as-f64-spec = tie.close (tie.spec cast-widen (λ c κs. search needs) returns returns-2)

@@ -13,12 +13,6 @@ use borrow.Author.Needs.{needs}
 use Rattle.element.proofs.hold.Statement.{statement}
 use Rattle.element.proofs.hold.Tie as tie
 
-end-magnitude-requires : tie.Need-end-magnitude-requires
-end-magnitude-requires c κs = search needs
-
-enum-told : tie.Need-enum-told
-enum-told c = search needs
-
 returns : tie.Need-returns
 returns c =
     let t = c .before .before .before .before in
@@ -32,24 +26,6 @@ returns-2 c =
     let a = t .args in
     let e = c .before .before .before .before .end-magnitude in
     subst (λ (o : OutOfRangeMode). Held (a .negative) (a .magnitude) (a .far) (integerOf (a .to)) o Past) (sym (c .before .before .enum-told .given .1)) (refused-near (a .to .signed) (a .to .bits) (t .pre .some) (t .pre .most) (a .negative) (a .magnitude) (a .far) (e .result) (e .ensures) (c .before .if1 .left) (c .if2 .taken))
-
-wrap-magnitude-requires : tie.Need-wrap-magnitude-requires
-wrap-magnitude-requires c κs = search needs
-
-enum-told-2 : tie.Need-enum-told-2
-enum-told-2 c = search needs
-
-clamp-requires : tie.Need-clamp-requires
-clamp-requires c κs = search needs
-
-wrap-magnitude-requires-2 : tie.Need-wrap-magnitude-requires-2
-wrap-magnitude-requires-2 c κs = search needs
-
-enum-told-3 : tie.Need-enum-told-3
-enum-told-3 c = search needs
-
-wrap-magnitude-requires-3 : tie.Need-wrap-magnitude-requires-3
-wrap-magnitude-requires-3 c κs = search needs
 
 returns-3 : tie.Need-returns-3
 returns-3 c =
@@ -75,19 +51,4 @@ returns-5 c =
     subst (λ (o : OutOfRangeMode). Held (a .negative) (a .magnitude) (a .far) (integerOf (a .to)) o (Pattern (w .result))) (sym (c .before .enum-told3 .given .1)) (wrapped (a .to .signed) (a .to .bits) (t .pre .some) (t .pre .most) (a .negative) (a .magnitude) (a .far) (e .result) (e .ensures) (w .result) (w .ensures))
 
 pub hold-spec : {M : Type 1} → statement M
-hold-spec =
-    tie.close
-    (tie.spec
-    end-magnitude-requires
-    enum-told
-    returns
-    returns-2
-    wrap-magnitude-requires
-    enum-told-2
-    clamp-requires
-    wrap-magnitude-requires-2
-    enum-told-3
-    wrap-magnitude-requires-3
-    returns-3
-    returns-4
-    returns-5)
+hold-spec = tie.close (tie.spec (λ c κs. search needs) (λ c. search needs) returns returns-2 (λ c κs. search needs) (λ c. search needs) (λ c κs. search needs) (λ c κs. search needs) (λ c. search needs) (λ c κs. search needs) returns-3 returns-4 returns-5)

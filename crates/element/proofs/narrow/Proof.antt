@@ -23,59 +23,20 @@ finite c = let h = c .before .if1 .left in let n = c .if2 .left in less h n
 not-clamp : (c : tie.At-match-keys2) → c .before .before .before .before .before .args .range ≡ Clamp → ⊥
 not-clamp c e = ⊎-elim (λ (a : _≡_ {A = ℕ} 1 0). omega arith) (λ (a : _≡_ {A = ℕ} 1 2). omega arith) (rw e at (c .match .keys2))
 
-narrow-nan-requires : tie.Need-narrow-nan-requires
-narrow-nan-requires c κs = search needs
-
-cast-t11 : tie.Need-cast-t11
-cast-t11 c = search needs
-
 returns : tie.Need-returns
 returns c = let t = c .before .before in let a = t .args in narrowed-nan (a .b) (t .fits .b .fits) (a .mode) (a .range) (c .narrow-nan .result) (c .before .if1 .taken) (c .narrow-nan .ensures)
-
-add-t12 : tie.Need-add-t12
-add-t12 c = search needs
 
 returns-2 : tie.Need-returns-2
 returns-2 c = let t = c .before .before in let a = t .args in narrowed-infinity (a .b) (t .fits .b .fits) (a .mode) (a .range) (c .if2 .taken)
 
-narrow-f32-requires : tie.Need-narrow-f32-requires
-narrow-f32-requires c κs = search needs
-
-add-t13 : tie.Need-add-t13
-add-t13 c = search needs
-
 returns-3 : tie.Need-returns-3
 returns-3 c = let t = c .before .before .before .before in let a = t .args in narrowed-number (a .b) (t .fits .b .fits) (a .mode) (a .range) (c .before .narrow-f32 .result) (finite (c .before .before)) (c .before .narrow-f32 .ensures) (c .if3 .taken)
 
-enum-told : tie.Need-enum-told
-enum-told c = search needs
-
-add-t14 : tie.Need-add-t14
-add-t14 c = search needs
-
 returns-4 : tie.Need-returns-4
 returns-4 c = let t = c .before .before .before .before .before .before in let a = t .args in narrowed-clamped (a .b) (t .fits .b .fits) (a .mode) (a .range) (c .before .before .before .narrow-f32 .result) (finite (c .before .before .before .before)) (c .before .before .before .narrow-f32 .ensures) (c .before .before .if3 .left) (c .enum-told .given .1)
-
-row-of-requires : tie.Need-row-of-requires
-row-of-requires c κs = search needs
 
 returns-5 : tie.Need-returns-5
 returns-5 c = let t = c .before .before .before .before .before .before in let a = t .args in narrowed-refused (a .b) (t .fits .b .fits) (a .mode) (a .range) (c .before .before .before .narrow-f32 .result) (finite (c .before .before .before .before)) (c .before .before .before .narrow-f32 .ensures) (c .before .before .if3 .left) (not-clamp (c .before)) (c .row-of .result) (c .row-of .ensures)
 
 pub narrow-spec : {M : Type 1} → statement M
-narrow-spec =
-    tie.close
-    (tie.spec
-    narrow-nan-requires
-    cast-t11
-    returns
-    add-t12
-    returns-2
-    narrow-f32-requires
-    add-t13
-    returns-3
-    enum-told
-    add-t14
-    returns-4
-    row-of-requires
-    returns-5)
+narrow-spec = tie.close (tie.spec (λ c κs. search needs) (λ c. search needs) returns (λ c. search needs) returns-2 (λ c κs. search needs) (λ c. search needs) returns-3 (λ c. search needs) (λ c. search needs) returns-4 (λ c κs. search needs) returns-5)

@@ -8,9 +8,6 @@ use Rattle.floats.proofs.Widening.{narrow-is}
 use Rattle.floats.proofs.narrow_nan.Statement.{statement}
 use Rattle.floats.proofs.narrow_nan.Tie as tie
 
-add-result : tie.Need-add-result
-add-result c = search needs
-
 add-result-2 : tie.Need-add-result-2
 add-result-2 c = omega (arith, mask-lt (c .args .b / 2 ^ 29) 22)
 
@@ -21,4 +18,4 @@ returns : tie.Need-returns
 returns c = narrow-is (c .args .b) _ (omega arith) (and-mask (c .args .b / 2 ^ 29) 22)
 
 pub narrow-nan-spec : {M : Type 1} → statement M
-narrow-nan-spec = tie.close (tie.spec add-result add-result-2 cast-result returns)
+narrow-nan-spec = tie.close (tie.spec (λ c. search needs) add-result-2 cast-result returns)

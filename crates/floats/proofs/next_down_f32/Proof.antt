@@ -6,11 +6,8 @@ use Rattle.floats.proofs.Mirror.{turned}
 use Rattle.floats.proofs.next_down_f32.Statement.{statement}
 use Rattle.floats.proofs.next_down_f32.Tie as tie
 
-next-up-f32-requires : tie.Need-next-up-f32-requires
-next-up-f32-requires c κs = search needs
-
 returns : tie.Need-returns
 returns c = turned 24 8 (c .before .args .b) (c .next-up-f32 .result) (omega arith) (omega arith) (omega arith) (c .next-up-f32 .ensures)
 
 pub next-down-f32-spec : {M : Type 1} → statement M
-next-down-f32-spec = tie.close (tie.spec next-up-f32-requires returns)
+next-down-f32-spec = tie.close (tie.spec (λ c κs. search needs) returns)

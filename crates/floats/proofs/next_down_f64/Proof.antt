@@ -6,11 +6,8 @@ use Rattle.floats.proofs.Mirror.{turned}
 use Rattle.floats.proofs.next_down_f64.Statement.{statement}
 use Rattle.floats.proofs.next_down_f64.Tie as tie
 
-next-up-f64-requires : tie.Need-next-up-f64-requires
-next-up-f64-requires c κs = search needs
-
 returns : tie.Need-returns
 returns c = turned 53 11 (c .before .args .b) (c .next-up-f64 .result) (omega arith) (omega arith) (omega arith) (c .next-up-f64 .ensures)
 
 pub next-down-f64-spec : {M : Type 1} → statement M
-next-down-f64-spec = tie.close (tie.spec next-up-f64-requires returns)
+next-down-f64-spec = tie.close (tie.spec (λ c κs. search needs) returns)

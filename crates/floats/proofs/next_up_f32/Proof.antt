@@ -1,43 +1,11 @@
--- `floats::next_up_f32` meets its contract: the tests are those by which `upFrom` picks its case, and the mask takes the sign's bit away.
+-- `floats::next_up_f32` meets its contract: the mask takes the sign's bit away.
 -- Assumes nothing.
-use mathlib.Core.Path.{sym, _∙_}
-use Prim.Native.Nat.{_-_, _^_}
-use lib.Bits.{bitAnd}
-use borrow.Author.Needs.{needs}
-use Rattle.floats.proofs.Successor.{up-nan, up-infinite, up-zero, up-negative, up-positive, masked}
+use mathlib.Core.Path.{_∙_}
+use native.Mathlib.Omega.{arith}
+use lib.Dec.{lit<, lit≤}
+use Rattle.floats.proofs.Successor.{masked}
 use Rattle.floats.proofs.next_up_f32.Statement.{statement}
 use Rattle.floats.proofs.next_up_f32.Tie as tie
 
-returns : tie.Need-returns
-returns c = let b = c .before .args .b in sym (up-nan 24 8 b (bitAnd b (2 ^ 31 - 1)) (c .if1 .taken)) ∙ masked 24 8 b
-
-returns-2 : tie.Need-returns-2
-returns-2 c =
-    let b = c .before .before .args .b in
-    sym (up-infinite 24 8 b (bitAnd b (2 ^ 31 - 1)) (c .before .if1 .left) (c .if2 .taken)) ∙ masked 24 8 b
-
-returns-3 : tie.Need-returns-3
-returns-3 c =
-    let b = c .before .before .before .args .b in
-    sym (up-zero 24 8 b (bitAnd b (2 ^ 31 - 1)) (c .before .before .if1 .left) (c .before .if2 .left) (c .if3 .taken)) ∙ masked 24 8 b
-
-sub-result : tie.Need-sub-result
-sub-result c = search needs
-
-add-result : tie.Need-add-result
-add-result c = search needs
-
-returns-4 : tie.Need-returns-4
-returns-4 c =
-    let t = c .before .before in
-    let b = t .before .before .args .b in
-    sym (up-negative 24 8 b (bitAnd b (2 ^ 31 - 1)) (t .before .if1 .left) (t .if2 .left) (c .before .if3 .left) (c .if4 .taken)) ∙ masked 24 8 b
-
-returns-5 : tie.Need-returns-5
-returns-5 c =
-    let t = c .before .before in
-    let b = t .before .before .args .b in
-    sym (up-positive 24 8 b (bitAnd b (2 ^ 31 - 1)) (t .before .if1 .left) (t .if2 .left) (c .before .if3 .left) (c .if4 .left)) ∙ masked 24 8 b
-
 pub next-up-f32-spec : {M : Type 1} → statement M
-next-up-f32-spec = tie.close (tie.spec returns returns-2 returns-3 sub-result add-result returns-4 returns-5)
+next-up-f32-spec = tie.close (tie.spec (λ c κs. record { some = lit< tt; most = lit≤ tt; fits = omega arith }) (λ c. record { fits = c .next-up .ensures .1 }) (λ c. c .next-up .ensures .0 ∙ masked 24 8 (c .before .args .b)))

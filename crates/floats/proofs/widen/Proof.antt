@@ -7,12 +7,6 @@ use Rattle.floats.proofs.Widening.{fraction-few, low-lt, widen-low, wid
 use Rattle.floats.proofs.widen.Statement.{statement}
 use Rattle.floats.proofs.widen.Tie as tie
 
-cast-sign : tie.Need-cast-sign
-cast-sign c = search needs
-
-parts-f32-requires : tie.Need-parts-f32-requires
-parts-f32-requires c κs = search needs
-
 widen-subnormal-requires : tie.Need-widen-subnormal-requires
 widen-subnormal-requires c κs =
     let b = c .before .before .args .b in
@@ -25,23 +19,11 @@ add-result c =
     let q = c .before .before .parts-f32 in
     omega (arith, c .widen-subnormal .ensures, low-lt (q .result .fraction) (fraction-few b (omega arith) (q .ensures)))
 
-add-result-2 : tie.Need-add-result-2
-add-result-2 c = search needs
-
-add-result-3 : tie.Need-add-result-3
-add-result-3 c = search needs
-
 add-result-4 : tie.Need-add-result-4
 add-result-4 c =
     let b = c .before .before .before .args .b in
     let q = c .before .before .parts-f32 in
     omega (arith, fraction-few b (omega arith) (q .ensures))
-
-add-result-5 : tie.Need-add-result-5
-add-result-5 c = search needs
-
-add-result-6 : tie.Need-add-result-6
-add-result-6 c = search needs
 
 add-result-7 : tie.Need-add-result-7
 add-result-7 c = omega (arith, mask-lt (c .before .before .before .parts-f32 .result .fraction) 22)
@@ -71,20 +53,4 @@ returns-4 c =
     widen-nan b (omega arith) (q .ensures) (omega arith) (c .if2 .left)
 
 pub widen-spec : {M : Type 1} → statement M
-widen-spec =
-    tie.close
-    (tie.spec
-    cast-sign
-    parts-f32-requires
-    widen-subnormal-requires
-    add-result
-    add-result-2
-    add-result-3
-    add-result-4
-    add-result-5
-    add-result-6
-    add-result-7
-    returns
-    returns-2
-    returns-3
-    returns-4)
+widen-spec = tie.close (tie.spec (λ c. search needs) (λ c κs. search needs) widen-subnormal-requires add-result (λ c. search needs) (λ c. search needs) add-result-4 (λ c. search needs) (λ c. search needs) add-result-7 returns returns-2 returns-3 returns-4)

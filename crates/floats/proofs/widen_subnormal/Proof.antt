@@ -16,9 +16,6 @@ sub-shift c = low-shift (c .before .args .fraction) (pos-of-ne-zero (c .if1 .lef
 sub-result : tie.Need-sub-result
 sub-result c = omega (arith, low-shift (c .before .args .fraction) (pos-of-ne-zero (c .if1 .left)) (c .before .pre))
 
-cast-result : tie.Need-cast-result
-cast-result c = search needs
-
 cast-result-2 : tie.Need-cast-result-2
 cast-result-2 c = omega (arith, low-shift (c .before .args .fraction) (pos-of-ne-zero (c .if1 .left)) (c .before .pre))
 
@@ -32,4 +29,4 @@ returns-2 : tie.Need-returns-2
 returns-2 c = low-sum (c .before .args .fraction) (pos-of-ne-zero (c .if1 .left)) (c .before .pre)
 
 pub widen-subnormal-spec : {M : Type 1} → statement M
-widen-subnormal-spec = tie.close (tie.spec returns sub-shift sub-result cast-result cast-result-2 shl-result add-result returns-2)
+widen-subnormal-spec = tie.close (tie.spec returns sub-shift sub-result (λ c. search needs) cast-result-2 shl-result add-result returns-2)

@@ -14,14 +14,8 @@ use borrow.Author.Needs.{needs}
 use Rattle.integers.proofs.int_to_f64_bits.Statement.{statement}
 use Rattle.integers.proofs.int_to_f64_bits.Tie as tie
 
-round-int-to-precision-requires : tie.Need-round-int-to-precision-requires
-round-int-to-precision-requires c κs = search needs
-
 float-to-bits-x : tie.Need-float-to-bits-x
 float-to-bits-x c = let x = c .round-int-to-precision in valued-no-nan (x .result) false _ 1 (x .ensures .value)
-
-cast-result : tie.Need-cast-result
-cast-result c = search needs
 
 add-result : tie.Need-add-result
 add-result c = let x = c .round-int-to-precision in record { fits = signed-bits-fit (x .result) _ (x .ensures .value) (x .ok) (c .before .args .negative) }
@@ -34,6 +28,4 @@ returns c =
     ∙ ap (λ (z : ℤ). patternOf f64 (a .negative) z) (sym (pick-scale-signed (a .digits) 0 (c .before .pre .least) (a .mode) (a .negative) (a .magnitude) 1074 (lit≤ tt)))
 
 pub int-to-f64-bits-spec : {M : Type 1} → statement M
-int-to-f64-bits-spec =
-    tie.close
-    (tie.spec round-int-to-precision-requires float-to-bits-x cast-result add-result returns)
+int-to-f64-bits-spec = tie.close (tie.spec (λ c κs. search needs) float-to-bits-x (λ c. search needs) add-result returns)

@@ -12,12 +12,6 @@ use Rattle.integers.proofs.Rounded.{few-digits, dropped, shift-lt, kept
 use Rattle.integers.proofs.round_int_to_precision.Statement.{statement}
 use Rattle.integers.proofs.round_int_to_precision.Tie as tie
 
-significant-bits-requires : tie.Need-significant-bits-requires
-significant-bits-requires c κs = search needs
-
-nearest-u64-to-f64-requires : tie.Need-nearest-u64-to-f64-requires
-nearest-u64-to-f64-requires c κs = search needs
-
 returns : tie.Need-returns
 returns c =
     let t = c .before .before in
@@ -28,29 +22,17 @@ returns c =
           (few-digits (a .digits) (a .magnitude) (t .before .pre) r (omega (arith, t .significant-bits .ensures, c .before .if1 .taken)));
     }
 
-sub-shift : tie.Need-sub-shift
-sub-shift c = search needs
-
-cast-q : tie.Need-cast-q
-cast-q c = search needs
-
 shr-q : tie.Need-shr-q
 shr-q c =
     let t = c .before in
     let a = t .before .args in
     omega (arith, shift-lt (a .digits) (a .magnitude) (t .before .pre) _ (dropped (a .digits) (t .significant-bits .result) (a .magnitude) (t .significant-bits .ensures) (c .if1 .left)) (omega arith))
 
-cast-kept : tie.Need-cast-kept
-cast-kept c = search needs
-
 shl-kept : tie.Need-shl-kept
 shl-kept c =
     let t = c .before in
     let a = t .before .args in
     omega (arith, shift-lt (a .digits) (a .magnitude) (t .before .pre) _ (dropped (a .digits) (t .significant-bits .result) (a .magnitude) (t .significant-bits .ensures) (c .if1 .left)) (omega arith))
-
-cast-unit : tie.Need-cast-unit
-cast-unit c = search needs
 
 shl-unit : tie.Need-shl-unit
 shl-unit c =
@@ -70,20 +52,8 @@ rounds-up-requires c κs =
     let a = t .before .args in
     rest-lt (a .digits) (a .magnitude) (t .before .pre) _ (dropped (a .digits) (t .significant-bits .result) (a .magnitude) (t .significant-bits .ensures) (c .if1 .left)) (omega arith)
 
-cast-more : tie.Need-cast-more
-cast-more c = search needs
-
-cast-more-2 : tie.Need-cast-more-2
-cast-more-2 c = search needs
-
 shl-more : tie.Need-shl-more
 shl-more c = shl-unit (c .before)
-
-nearest-u64-to-f64-requires-2 : tie.Need-nearest-u64-to-f64-requires-2
-nearest-u64-to-f64-requires-2 c κs = search needs
-
-nearest-u64-to-f64-requires-3 : tie.Need-nearest-u64-to-f64-requires-3
-nearest-u64-to-f64-requires-3 c κs = search needs
 
 returns-2 : tie.Need-returns-2
 returns-2 c =
@@ -96,24 +66,4 @@ returns-2 c =
     }
 
 pub round-int-to-precision-spec : {M : Type 1} → statement M
-round-int-to-precision-spec =
-    tie.close
-    (tie.spec
-    significant-bits-requires
-    nearest-u64-to-f64-requires
-    returns
-    sub-shift
-    cast-q
-    shr-q
-    cast-kept
-    shl-kept
-    cast-unit
-    shl-unit
-    sub-rounds-up
-    rounds-up-requires
-    cast-more
-    cast-more-2
-    shl-more
-    nearest-u64-to-f64-requires-2
-    nearest-u64-to-f64-requires-3
-    returns-2)
+round-int-to-precision-spec = tie.close (tie.spec (λ c κs. search needs) (λ c κs. search needs) returns (λ c. search needs) (λ c. search needs) shr-q (λ c. search needs) shl-kept (λ c. search needs) shl-unit sub-rounds-up rounds-up-requires (λ c. search needs) (λ c. search needs) shl-more (λ c κs. search needs) (λ c κs. search needs) returns-2)

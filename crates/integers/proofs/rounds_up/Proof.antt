@@ -8,27 +8,6 @@ use Rattle.integers.proofs.Steps.{even-up, away-up, zero-up, positive-u
 use Rattle.integers.proofs.rounds_up.Statement.{statement}
 use Rattle.integers.proofs.rounds_up.Tie as tie
 
-sub-left : tie.Need-sub-left
-sub-left c = search needs
-
-enum-told : tie.Need-enum-told
-enum-told c = search needs
-
-add-result : tie.Need-add-result
-add-result c = search needs
-
-enum-told-2 : tie.Need-enum-told-2
-enum-told-2 c = search needs
-
-enum-told-3 : tie.Need-enum-told-3
-enum-told-3 c = search needs
-
-enum-told-4 : tie.Need-enum-told-4
-enum-told-4 c = search needs
-
-enum-told-5 : tie.Need-enum-told-5
-enum-told-5 c = search needs
-
 returns : tie.Need-returns
 returns c = let a = c .before .before .args in let e : a .mode ≡ NearestEven = c .enum-told .given .1 in rw e (even-up (a .q) (a .rest) (a .unit) (c .before .before .pre) (a .negative))
 
@@ -51,20 +30,4 @@ returns-7 : tie.Need-returns-7
 returns-7 c = let a = c .before .before .args in let e : a .mode ≡ NearestAway = c .enum-told5 .given .1 in rw e (away-up (a .q) (a .rest) (a .unit) (c .before .before .pre) (a .negative))
 
 pub rounds-up-spec : {M : Type 1} → statement M
-rounds-up-spec =
-    tie.close
-    (tie.spec
-    sub-left
-    enum-told
-    add-result
-    enum-told-2
-    enum-told-3
-    enum-told-4
-    enum-told-5
-    returns
-    returns-2
-    returns-3
-    returns-4
-    returns-5
-    returns-6
-    returns-7)
+rounds-up-spec = tie.close (tie.spec (λ c. search needs) (λ c. search needs) (λ c. search needs) (λ c. search needs) (λ c. search needs) (λ c. search needs) (λ c. search needs) returns returns-2 returns-3 returns-4 returns-5 returns-6 returns-7)

@@ -14,16 +14,8 @@ rest zero a b = absurd (a refl)
 rest (suc zero) a b = absurd (b refl)
 rest (suc (suc n)) a b = refl
 
-returns : tie.Need-returns
-returns c = search needs
-
--- src/lib.rt:222:1
-returns-2 : tie.Need-returns-2
-returns-2 c = search needs
-
--- src/lib.rt:222:1
 returns-3 : tie.Need-returns-3
 returns-3 c = rest (c .before .args .code) (c .match .rest .0 .1) (c .match .rest .1)
 
 pub range-of-spec : {M : Type 1} → statement M
-range-of-spec = tie.close (tie.spec returns returns-2 returns-3)
+range-of-spec = tie.close (tie.spec (λ c. search needs) (λ c. search needs) returns-3)

@@ -16,24 +16,8 @@ rest (suc (suc zero)) a b c d = absurd (c refl)
 rest (suc (suc (suc zero))) a b c d = absurd (d refl)
 rest (suc (suc (suc (suc n)))) a b c d = refl
 
-returns : tie.Need-returns
-returns c = search needs
-
--- src/lib.rt:209:1
-returns-2 : tie.Need-returns-2
-returns-2 c = search needs
-
--- src/lib.rt:209:1
-returns-3 : tie.Need-returns-3
-returns-3 c = search needs
-
--- src/lib.rt:209:1
-returns-4 : tie.Need-returns-4
-returns-4 c = search needs
-
--- src/lib.rt:209:1
 returns-5 : tie.Need-returns-5
 returns-5 c = let r = c .match .rest in rest (c .before .args .code) (r .0 .0 .0 .1) (r .0 .0 .1) (r .0 .1) (r .1)
 
 pub rounding-of-spec : {M : Type 1} → statement M
-rounding-of-spec = tie.close (tie.spec returns returns-2 returns-3 returns-4 returns-5)
+rounding-of-spec = tie.close (tie.spec (λ c. search needs) (λ c. search needs) (λ c. search needs) (λ c. search needs) returns-5)

@@ -18,15 +18,9 @@ use Rattle.kinds.proofs.row_of.Tie as tie
 abbrev rule : ℕ → KindRow
 rule code = rowOf (kindOf code)
 
-mul-result : tie.Need-mul-result
-mul-result c = search needs
-
-array-copy-out-result : tie.Need-array-copy-out-result
-array-copy-out-result c = search needs
-
 returns : tie.Need-returns
 unfolding rowOf valueOf patternOf pick bitsMag size
 returns c = row rule 10 _ _ refl (c .before .args .code) (c .before .pre)
 
 pub row-of-spec : {M : Type 1} → statement M
-row-of-spec = tie.close (tie.spec mul-result array-copy-out-result returns)
+row-of-spec = tie.close (tie.spec (λ c. search needs) (λ c. search needs) returns)

@@ -7,14 +7,8 @@ use borrow.Author.Needs.{needs}
 use Rattle.listing.proofs.put_call.Statement.{statement}
 use Rattle.listing.proofs.put_call.Tie as tie
 
-row-of-requires : tie.Need-row-of-requires
-row-of-requires c κs = search needs
-
 div-n : tie.Need-div-n
 div-n c = let t = c .before .before .before .before .before .before .before in let x = c .before .row-of in row-some (t .args .from) (t .pre .from-listed) (x .result) (x .ensures)
-
-row-of-requires-2 : tie.Need-row-of-requires-2
-row-of-requires-2 c κs = search needs
 
 mul-size : tie.Need-mul-size
 mul-size c =
@@ -40,9 +34,6 @@ slice-aggregate-convert c =
     let y = c .before .row-of2 in
     size-lent (now (a .src)) (now (a .keys)) (now (a .targets)) (a .from) (a .to) (a .rounding) (a .range) (now (a .work)) (now (a .out)) (t .pre) (x .result) (y .result) (x .ensures) (y .ensures)
 
-convert-requires : tie.Need-convert-requires
-convert-requires c κs = search needs
-
 slice-reshare-prefix-put-report : tie.Need-slice-reshare-prefix-put-report
 slice-reshare-prefix-put-report c =
     let t = c .before .before .before .before .before .before .before .before .before .before .before .before .before in
@@ -67,12 +58,6 @@ put-report-requires c κs =
     let y = c .before .before .before .before .before .before .row-of2 in
     let z = c .before .before .before .before in report-asks (now (a .src)) (now (a .keys)) (now (a .targets)) (a .from) (a .to) (a .rounding) (a .range) (now (a .work)) (now (a .out)) (t .pre) (x .result) (y .result) (x .ensures) (y .ensures) (z .convert .result) (z .convert .last .1 .0) (z .convert .ensures) (z .convert .kept .1 .0)
 
-same-length : tie.Need-same-length
-same-length c = search needs
-
-same-length-2 : tie.Need-same-length-2
-same-length-2 c = search needs
-
 returns : tie.Need-returns
 returns c =
     let t = c .before .before .before .before .before .before .before .before .before .before .before .before .before .before .before .before .before in
@@ -82,19 +67,4 @@ returns c =
     let z = c .before .before .before .before .before .before .before in let u = c .before .before .put-report in call-reported (now (a .src)) (now (a .keys)) (now (a .targets)) (a .from) (a .to) (a .rounding) (a .range) (now (a .work)) (now (a .out)) (t .pre) (x .result) (y .result) (x .ensures) (y .ensures) (z .convert .result) (z .convert .last .1 .0) (z .convert .ensures) (z .convert .kept .1 .0) (u .result) (u .last .0) (u .ensures)
 
 pub put-call-spec : {M : Type 1} → statement M
-put-call-spec =
-    tie.close
-    (tie.spec
-    row-of-requires
-    div-n
-    row-of-requires-2
-    mul-size
-    slice-relend-prefix-convert
-    slice-aggregate-convert
-    convert-requires
-    slice-reshare-prefix-put-report
-    slice-aggregate-put-report
-    put-report-requires
-    same-length
-    same-length-2
-    returns)
+put-call-spec = tie.close (tie.spec (λ c κs. search needs) div-n (λ c κs. search needs) mul-size slice-relend-prefix-convert slice-aggregate-convert (λ c κs. search needs) slice-reshare-prefix-put-report slice-aggregate-put-report put-report-requires (λ c. search needs) (λ c. search needs) returns)

@@ -7,14 +7,8 @@ use borrow.Author.Needs.{needs}
 use Rattle.listing.proofs.put_decimal.Statement.{statement}
 use Rattle.listing.proofs.put_decimal.Tie as tie
 
-decimal-places-requires : tie.Need-decimal-places-requires
-decimal-places-requires c κs = search needs
-
 put-digits-requires : tie.Need-put-digits-requires
 put-digits-requires c κs = let t = c .before .before .before in let a = t .args in (omega arith, omega arith, decimal-room (now (a .out)) (a .at) (a .v) (c .decimal-places .result) (t .pre .0) (t .pre .1) (c .decimal-places .ensures))
-
-same-length : tie.Need-same-length
-same-length c = search needs
 
 returns : tie.Need-returns
 returns c =
@@ -23,5 +17,4 @@ returns c =
     decimal-by (now (a .out)) (a .at) (a .v) (x .before .decimal-places .result) (x .put-digits .result) (x .put-digits .last .0) (x .before .decimal-places .ensures) (x .put-digits .ensures)
 
 pub put-decimal-spec : {M : Type 1} → statement M
-put-decimal-spec =
-    tie.close (tie.spec decimal-places-requires put-digits-requires same-length returns)
+put-decimal-spec = tie.close (tie.spec (λ c κs. search needs) put-digits-requires (λ c. search needs) returns)

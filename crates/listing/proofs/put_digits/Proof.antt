@@ -14,29 +14,14 @@ Inv-loop out₀ at base k v end to₀ rest₀ out to rest = DigitsAt out₀ at b
 abbrev μ-loop : tie.MeasureT-loop
 μ-loop out₀ at base k v end to₀ rest₀ out to rest = to - at
 
-add-end : tie.Need-add-end Inv-loop μ-loop
-add-end c = omega arith
-
 loop-holds : tie.Need-loop-holds Inv-loop μ-loop
 loop-holds c = let t = c .before in let a = t .args in digits-start (now (a .out)) (a .at) (a .base) (a .k) (a .v) (t .pre .2)
-
-sub-to : tie.Need-sub-to Inv-loop μ-loop
-sub-to c = omega arith
-
-rem-glyph : tie.Need-rem-glyph Inv-loop μ-loop
-rem-glyph c = omega arith
 
 glyph-requires : tie.Need-glyph-requires Inv-loop μ-loop
 glyph-requires c κs = let t = c .before .before .before in lt-of-lt-of-le (mod-lt (c .before .loop .rest) (t .pre .0)) (t .pre .1)
 
 slice-write-out : tie.Need-slice-write-out Inv-loop μ-loop
 slice-write-out c = let l = c .before .before .loop in omega (arith, l .inv .same, l .inv .place, c .before .before .before .before .pre .2)
-
-div-rest : tie.Need-div-rest Inv-loop μ-loop
-div-rest c = omega arith
-
-loop-less : tie.Need-loop-less Inv-loop μ-loop
-loop-less c = omega arith
 
 loop-again : tie.Need-loop-again Inv-loop μ-loop
 loop-again c =
@@ -56,19 +41,4 @@ returns c =
     digits-end (now (a .out)) (a .at) (a .base) (a .k) (a .v) (t .pre .2) (l .to) (l .rest) (l .out) (l .inv) (c .loop-test .left)
 
 pub put-digits-spec : {M : Type 1} → statement M
-put-digits-spec =
-    tie.close
-    (tie.spec
-    Inv-loop
-    μ-loop
-    add-end
-    loop-holds
-    sub-to
-    rem-glyph
-    glyph-requires
-    slice-write-out
-    div-rest
-    loop-less
-    loop-again
-    same-length
-    returns)
+put-digits-spec = tie.close (tie.spec Inv-loop μ-loop (λ c. omega arith) loop-holds (λ c. omega arith) (λ c. omega arith) glyph-requires slice-write-out (λ c. omega arith) (λ c. omega arith) loop-again same-length returns)

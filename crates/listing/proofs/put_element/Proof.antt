@@ -8,24 +8,12 @@ use borrow.Author.Needs.{needs}
 use Rattle.listing.proofs.put_element.Statement.{statement}
 use Rattle.listing.proofs.put_element.Tie as tie
 
-read-le-requires : tie.Need-read-le-requires
-read-le-requires c κs = search needs
-
-mul-put-digits : tie.Need-mul-put-digits
-mul-put-digits c = search needs
-
-put-digits-requires : tie.Need-put-digits-requires
-put-digits-requires c κs = search needs
-
 put-byte-requires : tie.Need-put-byte-requires
 put-byte-requires c κs =
     let x = c .before .before .before in
     let t = c .before .before .before .before .before .before .before .before in
     let a = t .args in
     line-room (now (a .out)) (a .at) (a .w) (x .before .before .read-le .result) (x .put-digits .result) (x .put-digits .last .0) (t .pre .room) (x .put-digits .ensures)
-
-same-length : tie.Need-same-length
-same-length c = search needs
 
 returns : tie.Need-returns
 returns c =
@@ -36,12 +24,4 @@ returns c =
     line-told (now (a .out)) (a .at) (a .w) (x .before .before .read-le .result) (x .put-digits .result) (x .put-digits .last .0) (fromLe (take (a .w) (drop (a .from) (now (a .bytes))))) (z .put-byte .result) (z .put-byte .last .0) (x .before .before .read-le .ensures .0) (x .put-digits .ensures) (z .put-byte .ensures)
 
 pub put-element-spec : {M : Type 1} → statement M
-put-element-spec =
-    tie.close
-    (tie.spec
-    read-le-requires
-    mul-put-digits
-    put-digits-requires
-    put-byte-requires
-    same-length
-    returns)
+put-element-spec = tie.close (tie.spec (λ c κs. search needs) (λ c. search needs) (λ c κs. search needs) put-byte-requires (λ c. search needs) returns)

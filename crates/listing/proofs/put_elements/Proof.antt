@@ -30,12 +30,6 @@ add-from c =
     let l = c .before .before .before .before .before .loop in
     record { fits = omega (arith, from-within (now (a .out)) (a .at) (now (a .bytes)) (a .w) (a .k) (t .pre) (l .i) (l .from) (l .to) (l .out) (l .inv) (c .before .before .before .before .loop-test .taken)) }
 
-add-i : tie.Need-add-i Inv-loop μ-loop
-add-i c = omega arith
-
-loop-less : tie.Need-loop-less Inv-loop μ-loop
-loop-less c = omega arith
-
 loop-again : tie.Need-loop-again Inv-loop μ-loop
 loop-again c =
     let t = c .before .before .before .before .before .before .before .before in
@@ -55,16 +49,4 @@ returns c =
     lines-end (now (a .out)) (a .at) (now (a .bytes)) (a .w) (a .k) (t .pre) (l .i) (l .from) (l .to) (l .out) (l .inv) (c .loop-test .left)
 
 pub put-elements-spec : {M : Type 1} → statement M
-put-elements-spec =
-    tie.close
-    (tie.spec
-    Inv-loop
-    μ-loop
-    loop-holds
-    put-element-requires
-    add-from
-    add-i
-    loop-less
-    loop-again
-    same-length
-    returns)
+put-elements-spec = tie.close (tie.spec Inv-loop μ-loop loop-holds put-element-requires add-from (λ c. omega arith) (λ c. omega arith) loop-again same-length returns)

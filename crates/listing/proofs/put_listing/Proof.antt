@@ -26,35 +26,8 @@ six y = y .before .before .before .before .before .before .before .if1 .left
 listed : (y : tie.After-layout-of) → codesListed (call (input y)) ≡ true
 listed y = let u = y .before .before in sym (u .codes-listed .ensures) ∙ not-false (u .codes-listed .result) (y .before .if2 .left)
 
-put-refused-requires : tie.Need-put-refused-requires
-put-refused-requires c κs = search needs
-
-same-length : tie.Need-same-length
-same-length c = search needs
-
 returns : tie.Need-returns
 returns c = let t = c .before .before .before .before .before .before .before .before in wrote-as (short (now (t .args .input)) (c .before .before .before .before .if1 .taken)) (c .before .before .put-refused .ensures)
-
-shared-slice-read-codes-listed : tie.Need-shared-slice-read-codes-listed
-shared-slice-read-codes-listed c = search needs
-
-shared-slice-read-codes-listed-2 : tie.Need-shared-slice-read-codes-listed-2
-shared-slice-read-codes-listed-2 c = search needs
-
-shared-slice-read-codes-listed-3 : tie.Need-shared-slice-read-codes-listed-3
-shared-slice-read-codes-listed-3 c = search needs
-
-shared-slice-read-codes-listed-4 : tie.Need-shared-slice-read-codes-listed-4
-shared-slice-read-codes-listed-4 c = search needs
-
-codes-listed-requires : tie.Need-codes-listed-requires
-codes-listed-requires c κs = search needs
-
-put-refused-requires-2 : tie.Need-put-refused-requires-2
-put-refused-requires-2 c κs = search needs
-
-same-length-2 : tie.Need-same-length-2
-same-length-2 c = search needs
 
 returns-2 : tie.Need-returns-2
 returns-2 c =
@@ -68,24 +41,12 @@ layout-of-requires c κs =
     let t = u .before .before .before .before .before .before .before .before .before in
     head-in (now (t .args .input)) (u .before .before .before .before .before .if1 .left) (sym (u .codes-listed .ensures) ∙ not-false (u .codes-listed .result) (c .if2 .left))
 
-put-refused-requires-3 : tie.Need-put-refused-requires-3
-put-refused-requires-3 c κs = search needs
-
-same-length-3 : tie.Need-same-length-3
-same-length-3 c = search needs
-
 returns-3 : tie.Need-returns-3
 returns-3 c =
     let y = c .before .before .before .before .before in
     let s = input y in
     let l = y .layout-of in
     wrote-as (map-past s (six y) (listed y) (l .result) (l .ensures) (c .before .before .before .before .if3 .taken)) (c .before .before .put-refused3 .ensures)
-
-put-refused-requires-4 : tie.Need-put-refused-requires-4
-put-refused-requires-4 c κs = search needs
-
-same-length-4 : tie.Need-same-length-4
-same-length-4 c = search needs
 
 returns-4 : tie.Need-returns-4
 returns-4 c =
@@ -94,27 +55,12 @@ returns-4 c =
     let l = y .layout-of in
     wrote-as (map-missing s (six y) (listed y) (l .result) (l .ensures) (c .before .before .before .before .before .if3 .left) (c .before .before .before .before .if4 .taken)) (c .before .before .put-refused4 .ensures)
 
-put-refused-requires-5 : tie.Need-put-refused-requires-5
-put-refused-requires-5 c κs = search needs
-
-same-length-5 : tie.Need-same-length-5
-same-length-5 c = search needs
-
 returns-5 : tie.Need-returns-5
 returns-5 c =
     let y = c .before .before .before .before .before .before .before in
     let s = input y in
     let l = y .layout-of in
     wrote-as (longer s (six y) (listed y) (l .result) (l .ensures) (c .before .before .before .before .before .before .if3 .left) (c .before .before .before .before .before .if4 .left) (c .before .before .before .before .if5 .taken)) (c .before .before .put-refused5 .ensures)
-
-sub-put-call : tie.Need-sub-put-call
-sub-put-call c = search needs
-
-part-put-call-start : tie.Need-part-put-call-start
-part-put-call-start c = search needs
-
-part-put-call-end : tie.Need-part-put-call-end
-part-put-call-end c = search needs
 
 sub-put-call-2 : tie.Need-sub-put-call-2
 sub-put-call-2 c =
@@ -151,33 +97,12 @@ part-put-call-start-3 c =
     let l = y .layout-of in
     targets-first s (six y) (listed y) (l .result) (l .ensures)
 
-part-put-call-end-3 : tie.Need-part-put-call-end-3
-part-put-call-end-3 c = search needs
-
-shared-slice-read-put-call : tie.Need-shared-slice-read-put-call
-shared-slice-read-put-call c = search needs
-
-shared-slice-read-put-call-2 : tie.Need-shared-slice-read-put-call-2
-shared-slice-read-put-call-2 c = search needs
-
-shared-slice-read-put-call-3 : tie.Need-shared-slice-read-put-call-3
-shared-slice-read-put-call-3 c = search needs
-
-shared-slice-read-put-call-4 : tie.Need-shared-slice-read-put-call-4
-shared-slice-read-put-call-4 c = search needs
-
 put-call-requires : tie.Need-put-call-requires
 put-call-requires c κs =
     let y = c .before .before .before .before .before .before .before .before .before .before .before .before in
     let s = input y in
     let l = y .layout-of in
     let t = y .before .before .before .before .before .before .before .before .before .before .before in call-asks s (six y) (listed y) (l .result) (l .ensures) (c .before .before .before .before .before .before .before .before .before .before .before .if3 .left) (c .before .before .before .before .before .before .before .before .before .before .if4 .left) (c .before .before .before .before .before .before .before .before .before .if5 .left) (now (t .args .work)) (now (t .args .out)) (t .pre .0) (t .pre .1)
-
-same-length-6 : tie.Need-same-length-6
-same-length-6 c = search needs
-
-same-length-7 : tie.Need-same-length-7
-same-length-7 c = search needs
 
 returns-6 : tie.Need-returns-6
 returns-6 c =
@@ -187,44 +112,4 @@ returns-6 c =
     wrote-as (call-listed s (six y) (listed y) (l .result) (l .ensures) (c .before .before .before .before .before .before .before .before .before .before .before .before .before .before .before .before .if3 .left) (c .before .before .before .before .before .before .before .before .before .before .before .before .before .before .before .if4 .left) (c .before .before .before .before .before .before .before .before .before .before .before .before .before .before .if5 .left)) (c .before .before .before .before .put-call .ensures)
 
 pub put-listing-spec : {M : Type 1} → statement M
-put-listing-spec =
-    tie.close
-    (tie.spec
-    put-refused-requires
-    same-length
-    returns
-    shared-slice-read-codes-listed
-    shared-slice-read-codes-listed-2
-    shared-slice-read-codes-listed-3
-    shared-slice-read-codes-listed-4
-    codes-listed-requires
-    put-refused-requires-2
-    same-length-2
-    returns-2
-    layout-of-requires
-    put-refused-requires-3
-    same-length-3
-    returns-3
-    put-refused-requires-4
-    same-length-4
-    returns-4
-    put-refused-requires-5
-    same-length-5
-    returns-5
-    sub-put-call
-    part-put-call-start
-    part-put-call-end
-    sub-put-call-2
-    part-put-call-start-2
-    part-put-call-end-2
-    sub-put-call-3
-    part-put-call-start-3
-    part-put-call-end-3
-    shared-slice-read-put-call
-    shared-slice-read-put-call-2
-    shared-slice-read-put-call-3
-    shared-slice-read-put-call-4
-    put-call-requires
-    same-length-6
-    same-length-7
-    returns-6)
+put-listing-spec = tie.close (tie.spec (λ c κs. search needs) (λ c. search needs) returns (λ c. search needs) (λ c. search needs) (λ c. search needs) (λ c. search needs) (λ c κs. search needs) (λ c κs. search needs) (λ c. search needs) returns-2 layout-of-requires (λ c κs. search needs) (λ c. search needs) returns-3 (λ c κs. search needs) (λ c. search needs) returns-4 (λ c κs. search needs) (λ c. search needs) returns-5 (λ c. search needs) (λ c. search needs) (λ c. search needs) sub-put-call-2 part-put-call-start-2 part-put-call-end-2 sub-put-call-3 part-put-call-start-3 (λ c. search needs) (λ c. search needs) (λ c. search needs) (λ c. search needs) (λ c. search needs) put-call-requires (λ c. search needs) (λ c. search needs) returns-6)

@@ -6,24 +6,12 @@ use borrow.Author.Needs.{needs}
 use Rattle.listing.proofs.put_ok.Statement.{statement}
 use Rattle.listing.proofs.put_ok.Tie as tie
 
-slice-aggregate-put-text : tie.Need-slice-aggregate-put-text
-slice-aggregate-put-text c = search needs
-
-put-text-requires : tie.Need-put-text-requires
-put-text-requires c κs = search needs
-
-put-decimal-requires : tie.Need-put-decimal-requires
-put-decimal-requires c κs = search needs
-
 put-byte-requires : tie.Need-put-byte-requires
 put-byte-requires c κs =
     let x = c .before .before .before in
     let y = c .before .before .before .before .before .before .before in
     let t = c .before .before .before .before .before .before .before .before .before .before .before in
     ok-room (now (t .args .out)) (y .put-text .result) (y .put-text .last .0) (t .args .n) (x .put-decimal .result) (x .put-decimal .last .0) (t .pre .0) (t .pre .1) (y .put-text .ensures) (x .put-decimal .ensures)
-
-same-length : tie.Need-same-length
-same-length c = search needs
 
 returns : tie.Need-returns
 returns c =
@@ -34,12 +22,4 @@ returns c =
     ok-told (now (t .args .out)) (y .put-text .result) (y .put-text .last .0) (t .args .n) (x .put-decimal .result) (x .put-decimal .last .0) (z .put-byte .result) (z .put-byte .last .0) (y .put-text .ensures) (x .put-decimal .ensures) (z .put-byte .ensures)
 
 pub put-ok-spec : {M : Type 1} → statement M
-put-ok-spec =
-    tie.close
-    (tie.spec
-    slice-aggregate-put-text
-    put-text-requires
-    put-decimal-requires
-    put-byte-requires
-    same-length
-    returns)
+put-ok-spec = tie.close (tie.spec (λ c. search needs) (λ c κs. search needs) (λ c κs. search needs) put-byte-requires (λ c. search needs) returns)

@@ -8,15 +8,6 @@ use borrow.Author.Needs.{needs}
 use Rattle.listing.proofs.put_refused.Statement.{statement}
 use Rattle.listing.proofs.put_refused.Tie as tie
 
-slice-aggregate-put-text : tie.Need-slice-aggregate-put-text
-slice-aggregate-put-text c = search needs
-
-put-text-requires : tie.Need-put-text-requires
-put-text-requires c κs = search needs
-
-put-decimal-requires : tie.Need-put-decimal-requires
-put-decimal-requires c κs = search needs
-
 put-byte-requires : tie.Need-put-byte-requires
 put-byte-requires c κs =
     let x = c .before .before .before .before in
@@ -25,9 +16,6 @@ put-byte-requires c κs =
     let a = t .args in
     let h = number-room (now (a .out)) (y .put-text .result) (y .put-text .last .0) (a .number) (x .put-decimal .result) (x .put-decimal .last .0) (t .pre .0) (t .pre .2) (y .put-text .ensures) (x .put-decimal .ensures) in omega arith
 
-same-length : tie.Need-same-length
-same-length c = search needs
-
 returns : tie.Need-returns
 returns c =
     let x = c .before .before .before .before .before .before .before in
@@ -35,9 +23,6 @@ returns c =
     let t = c .before .before .before .before .before .before .before .before .before .before .before .before .before .before .before in
     let a = t .args in
     let z = c .before .before in refused-plain (now (a .out)) (y .put-text .result) (y .put-text .last .0) (a .number) (x .put-decimal .result) (x .put-decimal .last .0) (t .pre .0) (t .pre .2) (y .put-text .ensures) (x .put-decimal .ensures) (a .position) (z .put-byte .result) (z .put-byte .last .0) (omega arith) (z .put-byte .ensures)
-
-slice-aggregate-put-text-2 : tie.Need-slice-aggregate-put-text-2
-slice-aggregate-put-text-2 c = search needs
 
 put-text-requires-2 : tie.Need-put-text-requires-2
 put-text-requires-2 c κs =
@@ -63,9 +48,6 @@ put-byte-requires-2 c κs =
     let a = t .args in
     let z = c .before .before .before .before .before .before .before in let v = c .before .before .before in position-room (now (a .out)) (y .put-text .result) (y .put-text .last .0) (a .number) (x .put-decimal .result) (x .put-decimal .last .0) (t .pre .0) (t .pre .2) (y .put-text .ensures) (x .put-decimal .ensures) (a .position) (z .put-text2 .result) (z .put-text2 .last .0) (z .put-text2 .ensures) (v .put-decimal2 .result) (v .put-decimal2 .last .0) (t .pre .1) (v .put-decimal2 .ensures)
 
-same-length-2 : tie.Need-same-length-2
-same-length-2 c = search needs
-
 returns-2 : tie.Need-returns-2
 returns-2 c =
     let x = c .before .before .before .before .before .before .before .before .before .before .before .before .before .before .before .before in
@@ -75,18 +57,4 @@ returns-2 c =
     let z = c .before .before .before .before .before .before .before .before .before .before in let v = c .before .before .before .before .before .before in let u = c .before .before in refused-at (now (a .out)) (y .put-text .result) (y .put-text .last .0) (a .number) (x .put-decimal .result) (x .put-decimal .last .0) (t .pre .0) (t .pre .2) (y .put-text .ensures) (x .put-decimal .ensures) (a .position) (z .put-text2 .result) (z .put-text2 .last .0) (z .put-text2 .ensures) (v .put-decimal2 .result) (v .put-decimal2 .last .0) (t .pre .1) (v .put-decimal2 .ensures) (omega arith) (u .put-byte2 .result) (u .put-byte2 .last .0) (u .put-byte2 .ensures)
 
 pub put-refused-spec : {M : Type 1} → statement M
-put-refused-spec =
-    tie.close
-    (tie.spec
-    slice-aggregate-put-text
-    put-text-requires
-    put-decimal-requires
-    put-byte-requires
-    same-length
-    returns
-    slice-aggregate-put-text-2
-    put-text-requires-2
-    put-decimal-requires-2
-    put-byte-requires-2
-    same-length-2
-    returns-2)
+put-refused-spec = tie.close (tie.spec (λ c. search needs) (λ c κs. search needs) (λ c κs. search needs) put-byte-requires (λ c. search needs) returns (λ c. search needs) put-text-requires-2 put-decimal-requires-2 put-byte-requires-2 (λ c. search needs) returns-2)

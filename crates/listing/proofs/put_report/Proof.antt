@@ -6,27 +6,12 @@ use borrow.Author.Needs.{needs}
 use Rattle.listing.proofs.put_report.Statement.{statement}
 use Rattle.listing.proofs.put_report.Tie as tie
 
-number-requires : tie.Need-number-requires
-number-requires c κs = search needs
-
-cast-number : tie.Need-cast-number
-cast-number c = search needs
-
-position-requires : tie.Need-position-requires
-position-requires c κs = search needs
-
-put-ok-requires : tie.Need-put-ok-requires
-put-ok-requires c κs = search needs
-
 put-elements-requires : tie.Need-put-elements-requires
 put-elements-requires c κs =
     let t = c .before .before .before .before .before .before .before .before .before .before in
     let a = t .args in
     let x = c .before .before .before in
     ok-lines-ask (now (a .out)) (now (a .bytes)) (a .answer) (a .n) (a .w) (t .pre) (x .put-ok .result) (x .put-ok .last .0) (x .put-ok .ensures)
-
-same-length : tie.Need-same-length
-same-length c = search needs
 
 returns : tie.Need-returns
 returns c =
@@ -54,9 +39,6 @@ put-elements-requires-2 c κs =
     let x = c .before .before .before in
     refused-lines-ask (now (a .out)) (now (a .bytes)) (a .answer) (a .n) (a .w) (t .pre) (m .number .result) (p .position .result) (m .number .ensures) (p .position .ensures) (x .put-refused .result) (x .put-refused .last .0) (x .put-refused .ensures)
 
-same-length-2 : tie.Need-same-length-2
-same-length-2 c = search needs
-
 returns-2 : tie.Need-returns-2
 returns-2 c =
     let t = c .before .before .before .before .before .before .before .before .before .before .before .before .before in
@@ -68,17 +50,4 @@ returns-2 c =
     refused-report (now (a .out)) (now (a .bytes)) (a .answer) (a .n) (a .w) (t .pre) (m .number .result) (p .position .result) (m .number .ensures) (p .position .ensures) (x .put-refused .result) (x .put-refused .last .0) (x .put-refused .ensures) (c .before .before .before .before .before .before .before .before .if1 .left) (y .put-elements2 .result) (y .put-elements2 .last .0) (y .put-elements2 .ensures)
 
 pub put-report-spec : {M : Type 1} → statement M
-put-report-spec =
-    tie.close
-    (tie.spec
-    number-requires
-    cast-number
-    position-requires
-    put-ok-requires
-    put-elements-requires
-    same-length
-    returns
-    put-refused-requires
-    put-elements-requires-2
-    same-length-2
-    returns-2)
+put-report-spec = tie.close (tie.spec (λ c κs. search needs) (λ c. search needs) (λ c κs. search needs) (λ c κs. search needs) put-elements-requires (λ c. search needs) returns put-refused-requires put-elements-requires-2 (λ c. search needs) returns-2)

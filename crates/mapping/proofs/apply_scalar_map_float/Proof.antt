@@ -45,12 +45,6 @@ returns c =
     let t = l .before .before .before .before in
     found (t .pre .bytes) (l .before .loop .inv) (l .loop-test .taken) (m .before .pattern-at .ensures) (m .matches-float .ensures) (c .before .if1 .taken) (c .pattern-at2 .ensures .0)
 
-add-j : tie.Need-add-j Inv-loop μ-loop
-add-j c = search needs
-
-loop-less : tie.Need-loop-less Inv-loop μ-loop
-loop-less c = search needs
-
 loop-again : tie.Need-loop-again Inv-loop μ-loop
 loop-again c =
     let m = c .before in
@@ -62,17 +56,4 @@ returns-2 : tie.Need-returns-2 Inv-loop μ-loop
 returns-2 c = all-passed (c .before .loop .inv) (c .loop-test .left)
 
 pub apply-scalar-map-float-spec : {M : Type 1} → statement M
-apply-scalar-map-float-spec =
-    tie.close
-    (tie.spec
-    Inv-loop
-    μ-loop
-    loop-holds
-    pattern-at-requires
-    matches-float-requires
-    pattern-at-requires-2
-    returns
-    add-j
-    loop-less
-    loop-again
-    returns-2)
+apply-scalar-map-float-spec = tie.close (tie.spec Inv-loop μ-loop loop-holds pattern-at-requires matches-float-requires pattern-at-requires-2 returns (λ c. search needs) (λ c. search needs) loop-again returns-2)

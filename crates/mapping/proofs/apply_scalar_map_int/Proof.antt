@@ -44,12 +44,6 @@ returns c =
     let t = l .before .before .before .before in
     found (t .pre .bytes) (l .before .loop .inv) (l .loop-test .taken) (k .pattern-at .ensures) (tested k) (eq-eqb _ _ (c .before .if1 .taken)) (c .pattern-at2 .ensures .0)
 
-add-i : tie.Need-add-i Inv-loop μ-loop
-add-i c = search needs
-
-loop-less : tie.Need-loop-less Inv-loop μ-loop
-loop-less c = search needs
-
 loop-again : tie.Need-loop-again Inv-loop μ-loop
 loop-again c =
     let k = c .before in
@@ -61,16 +55,4 @@ returns-2 : tie.Need-returns-2 Inv-loop μ-loop
 returns-2 c = all-passed (c .before .loop .inv) (c .loop-test .left)
 
 pub apply-scalar-map-int-spec : {M : Type 1} → statement M
-apply-scalar-map-int-spec =
-    tie.close
-    (tie.spec
-    Inv-loop
-    μ-loop
-    loop-holds
-    pattern-at-requires
-    pattern-at-requires-2
-    returns
-    add-i
-    loop-less
-    loop-again
-    returns-2)
+apply-scalar-map-int-spec = tie.close (tie.spec Inv-loop μ-loop loop-holds pattern-at-requires pattern-at-requires-2 returns (λ c. search needs) (λ c. search needs) loop-again returns-2)

@@ -15,14 +15,10 @@ returns c =
     let t = c .before .before in
     f32-matches (t .args .code) (t .args .a) (t .args .key) (c .matches-f32 .result) (c .before .if1 .taken) (c .matches-f32 .ensures)
 
-matches-f64-requires : tie.Need-matches-f64-requires
-matches-f64-requires c κs = search needs
-
 returns-2 : tie.Need-returns-2
 returns-2 c =
     let t = c .before .before in
     f64-matches (t .args .code) (t .args .a) (t .args .key) (c .matches-f64 .result) (t .pre .float) (t .pre .listed) (c .before .if1 .left) (c .matches-f64 .ensures)
 
 pub matches-float-spec : {M : Type 1} → statement M
-matches-float-spec =
-    tie.close (tie.spec matches-f32-requires returns matches-f64-requires returns-2)
+matches-float-spec = tie.close (tie.spec matches-f32-requires returns (λ c κs. search needs) returns-2)

@@ -5,21 +5,8 @@ use borrow.Author.Needs.{needs}
 use Rattle.polskrea.proofs.polskrea_convert.Statement.{statement}
 use Rattle.polskrea.proofs.polskrea_convert.Tie as tie
 
-convert-requires : tie.Need-convert-requires
-convert-requires c κs = search needs
-
-fields-requires : tie.Need-fields-requires
-fields-requires c κs = search needs
-
-number-requires : tie.Need-number-requires
-number-requires c κs = search needs
-
-same-length : tie.Need-same-length
-same-length c = search needs
-
 returns : tie.Need-returns
 returns c = exported _ (c .before .before .before .before .convert .result) _ _ _ (c .before .before .before .before .convert .ensures) (c .number .ensures) (c .before .fields .ensures)
 
 pub polskrea-convert-spec : {M : Type 1} → statement M
-polskrea-convert-spec =
-    tie.close (tie.spec convert-requires fields-requires number-requires same-length returns)
+polskrea-convert-spec = tie.close (tie.spec (λ c κs. search needs) (λ c κs. search needs) (λ c κs. search needs) (λ c. search needs) returns)

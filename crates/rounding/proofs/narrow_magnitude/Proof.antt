@@ -8,9 +8,6 @@ use borrow.Author.Needs.{needs}
 use Rattle.rounding.proofs.narrow_magnitude.Statement.{statement}
 use Rattle.rounding.proofs.narrow_magnitude.Tie as tie
 
-sub-round-shift : tie.Need-sub-round-shift
-sub-round-shift c = search needs
-
 round-shift-requires : tie.Need-round-shift-requires
 round-shift-requires c κs = let t = c .before in let a = t .args in normal-asks (ruleFor (a .negative) (a .mode)) (a .x) (a .drop) (a .base) (t .pre)
 
@@ -26,18 +23,6 @@ returns-2 c = let t = c .before .before .before in let a = t .args in subnormal-
 add-round-shift : tie.Need-add-round-shift
 add-round-shift c = record { fits = omega (arith, mask-lt (c .before .before .args .x) 52) }
 
-add-at-most-63 : tie.Need-add-at-most-63
-add-at-most-63 c = search needs
-
-sub-at-most-63 : tie.Need-sub-at-most-63
-sub-at-most-63 c = search needs
-
-sub-at-most-63-2 : tie.Need-sub-at-most-63-2
-sub-at-most-63-2 c = search needs
-
-at-most-63-requires : tie.Need-at-most-63-requires
-at-most-63-requires c κs = search needs
-
 round-shift-requires-3 : tie.Need-round-shift-requires-3
 round-shift-requires-3 c κs = let t = c .before .before .before in let a = t .args in small-asks (ruleFor (a .negative) (a .mode)) (a .x) (a .drop) (a .base) (t .pre) (c .before .if2 .left) (c .before .before .if1 .left) (c .at-most-63 .result) (c .at-most-63 .ensures)
 
@@ -45,18 +30,4 @@ returns-3 : tie.Need-returns-3
 returns-3 c = let t = c .before .before .before .before in let a = t .args in small-is (ruleFor (a .negative) (a .mode)) (a .x) (a .drop) (a .base) (t .pre) (c .before .before .if2 .left) (c .before .before .before .if1 .left) (c .before .at-most-63 .result) (c .round-shift3 .result) (c .before .at-most-63 .ensures) (c .round-shift3 .ensures)
 
 pub narrow-magnitude-spec : {M : Type 1} → statement M
-narrow-magnitude-spec =
-    tie.close
-    (tie.spec
-    sub-round-shift
-    round-shift-requires
-    returns
-    round-shift-requires-2
-    returns-2
-    add-round-shift
-    add-at-most-63
-    sub-at-most-63
-    sub-at-most-63-2
-    at-most-63-requires
-    round-shift-requires-3
-    returns-3)
+narrow-magnitude-spec = tie.close (tie.spec (λ c. search needs) round-shift-requires returns round-shift-requires-2 returns-2 add-round-shift (λ c. search needs) (λ c. search needs) (λ c. search needs) (λ c κs. search needs) round-shift-requires-3 returns-3)

@@ -7,23 +7,11 @@ use borrow.Author.Needs.{needs}
 use Rattle.rounding.proofs.round_fraction.Statement.{statement}
 use Rattle.rounding.proofs.round_fraction.Tie as tie
 
-round-shift-requires : tie.Need-round-shift-requires
-round-shift-requires c κs = search needs
-
 returns : tie.Need-returns
 returns c =
     let t = c .before .before in
     let a = t .args in
     subnormal-whole (ruleFor (a .negative) (a .mode)) 1074 (a .fraction) refl (t .pre .1) (a .field) (c .round-shift .result) (c .before .if1 .taken) (c .round-shift .ensures)
-
-add-round-shift : tie.Need-add-round-shift
-add-round-shift c = search needs
-
-sub-at-most-63 : tie.Need-sub-at-most-63
-sub-at-most-63 c = search needs
-
-at-most-63-requires : tie.Need-at-most-63-requires
-at-most-63-requires c κs = search needs
 
 round-shift-requires-2 : tie.Need-round-shift-requires-2
 round-shift-requires-2 c κs =
@@ -38,13 +26,4 @@ returns-2 c =
     normal-whole (ruleFor (a .negative) (a .mode)) 1074 (a .fraction) refl (t .pre .1) (a .field) (c .before .before .if1 .left) (t .pre .0) (c .before .at-most-63 .result) (c .round-shift2 .result) (c .before .at-most-63 .ensures) (c .round-shift2 .ensures)
 
 pub round-fraction-spec : {M : Type 1} → statement M
-round-fraction-spec =
-    tie.close
-    (tie.spec
-    round-shift-requires
-    returns
-    add-round-shift
-    sub-at-most-63
-    at-most-63-requires
-    round-shift-requires-2
-    returns-2)
+round-fraction-spec = tie.close (tie.spec (λ c κs. search needs) returns (λ c. search needs) (λ c. search needs) (λ c κs. search needs) round-shift-requires-2 returns-2)

@@ -9,12 +9,6 @@ use Rattle.rounding.proofs.Biased.{one-shl, sum-fits, sum-steps}
 use Rattle.rounding.proofs.round_shift.Statement.{statement}
 use Rattle.rounding.proofs.round_shift.Tie as tie
 
-shl-unit : tie.Need-shl-unit
-shl-unit c = search needs
-
-shr-q : tie.Need-shr-q
-shr-q c = search needs
-
 sub-bias : tie.Need-sub-bias
 sub-bias c = let a = c .args in omega (arith, one-shl (a .j) (c .pre .few), pow-pos (a .j))
 
@@ -24,12 +18,8 @@ bias-requires c κs = let a = c .args in let h : 2 ^ a .j ≤ 2 ^ 63 = pow-mono 
 add-result : tie.Need-add-result
 add-result c = let s = c .before in let a = s .args in record { fits = sum-fits (ruleFor (a .negative) (a .mode)) (c .bias .result) (a .m) (a .j) (s .pre .some) (s .pre .few) (c .bias .ensures) (s .pre .room) }
 
-shr-result : tie.Need-shr-result
-shr-result c = search needs
-
 returns : tie.Need-returns
 returns c = let s = c .before in let a = s .args in sum-steps (ruleFor (a .negative) (a .mode)) (c .bias .result) (a .m) (a .j) (s .pre .some) (s .pre .few) (c .bias .ensures)
 
 pub round-shift-spec : {M : Type 1} → statement M
-round-shift-spec =
-    tie.close (tie.spec shl-unit shr-q sub-bias bias-requires add-result shr-result returns)
+round-shift-spec = tie.close (tie.spec (λ c. search needs) (λ c. search needs) sub-bias bias-requires add-result (λ c. search needs) returns)

@@ -18,9 +18,6 @@ returns c =
 add-t9 : tie.Need-add-t9
 add-t9 c = record { fits = omega (arith, mask-lt (c .before .before .args .b) 52) }
 
-shl-t11 : tie.Need-shl-t11
-shl-t11 c = search needs
-
 returns-2 : tie.Need-returns-2
 returns-2 c = let a = c .before .before .args in up-is (a .mode) (a .b) (c .before .if1 .left)
 
@@ -28,5 +25,4 @@ returns-3 : tie.Need-returns-3
 returns-3 c = let a = c .before .before .args in far-is (a .mode) (a .b) (c .if2 .left)
 
 pub round-to-whole-spec : {M : Type 1} → statement M
-round-to-whole-spec =
-    tie.close (tie.spec round-fraction-requires returns add-t9 shl-t11 returns-2 returns-3)
+round-to-whole-spec = tie.close (tie.spec round-fraction-requires returns add-t9 (λ c. search needs) returns-2 returns-3)

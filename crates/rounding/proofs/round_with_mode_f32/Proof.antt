@@ -23,16 +23,5 @@ cast-result c = let t = c .before in let a = t .args in record { fits = omega (a
 add-result : tie.Need-add-result
 add-result c = let t = c .before in let a = t .args in record { fits = masked-sum-fits 24 8 925 127 f32-layout (a .mode) (a .b) (c .round-magnitude .result) (t .fits .b .fits) (c .round-magnitude .ensures) }
 
-returns : tie.Need-returns
-returns c = let t = c .before in let a = t .args in masked-pattern 24 8 925 127 f32-layout (a .mode) (a .b) (c .round-magnitude .result) (t .fits .b .fits) (c .round-magnitude .ensures)
-
 pub round-with-mode-f32-spec : {M : Type 1} → statement M
-round-with-mode-f32-spec =
-    tie.close
-    (tie.spec
-    sub-result
-    cast-round-magnitude
-    round-magnitude-requires
-    cast-result
-    add-result
-    returns)
+round-with-mode-f32-spec = tie.close (tie.spec sub-result cast-round-magnitude round-magnitude-requires cast-result add-result (λ c. let t = c .before in let a = t .args in masked-pattern 24 8 925 127 f32-layout (a .mode) (a .b) (c .round-magnitude .result) (t .fits .b .fits) (c .round-magnitude .ensures)))

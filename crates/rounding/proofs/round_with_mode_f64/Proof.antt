@@ -17,9 +17,5 @@ round-magnitude-requires c κs = record { some = lit≤ tt; few = lit≤ tt; odd
 add-result : tie.Need-add-result
 add-result c = let t = c .before in let a = t .args in record { fits = masked-sum-fits 53 11 0 1023 f64-layout (a .mode) (a .b) (c .round-magnitude .result) (t .fits .b .fits) (c .round-magnitude .ensures) }
 
-returns : tie.Need-returns
-returns c = let t = c .before in let a = t .args in masked-pattern 53 11 0 1023 f64-layout (a .mode) (a .b) (c .round-magnitude .result) (t .fits .b .fits) (c .round-magnitude .ensures)
-
 pub round-with-mode-f64-spec : {M : Type 1} → statement M
-round-with-mode-f64-spec =
-    tie.close (tie.spec sub-result round-magnitude-requires add-result returns)
+round-with-mode-f64-spec = tie.close (tie.spec sub-result round-magnitude-requires add-result (λ c. let t = c .before in let a = t .args in masked-pattern 53 11 0 1023 f64-layout (a .mode) (a .b) (c .round-magnitude .result) (t .fits .b .fits) (c .round-magnitude .ensures)))

@@ -7,18 +7,6 @@ use borrow.Author.Needs.{needs}
 use Rattle.select.proofs.choose.Statement.{statement}
 use Rattle.select.proofs.choose.Tie as tie
 
-cast-wrapping-sub-u64 : tie.Need-cast-wrapping-sub-u64
-cast-wrapping-sub-u64 c = search needs
-
-wrapping-sub-u64-requires : tie.Need-wrapping-sub-u64-requires
-wrapping-sub-u64-requires c κs = search needs
-
-wrapping-sub-u64-requires-2 : tie.Need-wrapping-sub-u64-requires-2
-wrapping-sub-u64-requires-2 c κs = search needs
-
-wrapping-add-u64-requires : tie.Need-wrapping-add-u64-requires
-wrapping-add-u64-requires c κs = search needs
-
 returns : tie.Need-returns
 returns c =
     let more = c .before .wrapping-sub-u642 in
@@ -27,11 +15,4 @@ returns c =
     c .wrapping-add-u64 .ensures ∙ masked (a .a) (a .b) (more .result) (mask .result) (omega arith) (omega arith) (omega arith) (more .ensures) (a .second) (mask .ensures)
 
 pub choose-spec : {M : Type 1} → statement M
-choose-spec =
-    tie.close
-    (tie.spec
-    cast-wrapping-sub-u64
-    wrapping-sub-u64-requires
-    wrapping-sub-u64-requires-2
-    wrapping-add-u64-requires
-    returns)
+choose-spec = tie.close (tie.spec (λ c. search needs) (λ c κs. search needs) (λ c κs. search needs) (λ c κs. search needs) returns)

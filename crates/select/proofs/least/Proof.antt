@@ -6,11 +6,8 @@ use borrow.Author.Needs.{needs}
 use Rattle.select.proofs.least.Statement.{statement}
 use Rattle.select.proofs.least.Tie as tie
 
-choose-requires : tie.Need-choose-requires
-choose-requires c κs = search needs
-
 returns : tie.Need-returns
 returns c = let a = c .before .args in c .choose .ensures ∙ lesser (a .a) (a .b)
 
 pub least-spec : {M : Type 1} → statement M
-least-spec = tie.close (tie.spec choose-requires returns)
+least-spec = tie.close (tie.spec (λ c κs. search needs) returns)

@@ -15,12 +15,6 @@ use borrow.Author.Needs.{needs}
 use Rattle.wrapping.proofs.wrap_integral_f64.Statement.{statement}
 use Rattle.wrapping.proofs.wrap_integral_f64.Tie as tie
 
-round-to-whole-requires : tie.Need-round-to-whole-requires
-round-to-whole-requires c κs = search needs
-
-wrap-magnitude-requires : tie.Need-wrap-magnitude-requires
-wrap-magnitude-requires c κs = search needs
-
 returns : tie.Need-returns
 returns c =
     let t = c .before .before in
@@ -31,4 +25,4 @@ returns c =
     ∙ ap (λ (m : ℕ). lowBits (a .bits) (signed (leb (2 ^ 63) (a .b)) m)) (towards-zero (leb (2 ^ 63) (a .b)) 1074 (bitsMag 53 0 (a .b % 2 ^ 63)))
 
 pub wrap-integral-f64-spec : {M : Type 1} → statement M
-wrap-integral-f64-spec = tie.close (tie.spec round-to-whole-requires wrap-magnitude-requires returns)
+wrap-integral-f64-spec = tie.close (tie.spec (λ c κs. search needs) (λ c κs. search needs) returns)

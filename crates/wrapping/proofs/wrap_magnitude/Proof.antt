@@ -8,21 +8,6 @@ use borrow.Author.Needs.{needs}
 use Rattle.wrapping.proofs.wrap_magnitude.Statement.{statement}
 use Rattle.wrapping.proofs.wrap_magnitude.Tie as tie
 
-sub-mask : tie.Need-sub-mask
-sub-mask c = search needs
-
-cast-mask : tie.Need-cast-mask
-cast-mask c = search needs
-
-shr-mask : tie.Need-shr-mask
-shr-mask c = search needs
-
-wrapping-sub-u64-requires : tie.Need-wrapping-sub-u64-requires
-wrapping-sub-u64-requires c κs = search needs
-
-choose-requires : tie.Need-choose-requires
-choose-requires c κs = search needs
-
 returns : tie.Need-returns
 returns c =
     let t = c .before .before in
@@ -30,6 +15,4 @@ returns c =
     ap (λ (x : ℕ). bitAnd x ((2 ^ 64 - 1) / 2 ^ (64 - a .bits))) (c .choose .ensures) ∙ wrapped (a .bits) (t .pre .1) (a .negative) (c .before .wrapping-sub-u64 .result) (a .magnitude) (c .before .wrapping-sub-u64 .ensures)
 
 pub wrap-magnitude-spec : {M : Type 1} → statement M
-wrap-magnitude-spec =
-    tie.close
-    (tie.spec sub-mask cast-mask shr-mask wrapping-sub-u64-requires choose-requires returns)
+wrap-magnitude-spec = tie.close (tie.spec (λ c. search needs) (λ c. search needs) (λ c. search needs) (λ c κs. search needs) (λ c κs. search needs) returns)
