@@ -235,9 +235,15 @@ fn put_listing(input: &[u8], work: &mut [u8], out: &mut [u8]) -> usize
     )
 }
 
-// Lists an input: the listing stands at the start of out, whose other bytes stay, and its length is returned. Whatever the input,
-// 8,186 elements of 8 bytes fit into work, and a first line of 18 bytes and as many of 17 into out. What work then holds is left free.
-pub fn list(input: &[u8], work: &mut [u8; 65488], out: &mut [u8; 139180]) -> usize
+// Room for 8,186 elements of 8 bytes: as many as an input can have.
+pub type Work = [u8; 65488];
+
+// Room for a first line of 18 bytes and 8,186 lines of 17.
+pub type Lines = [u8; 139180];
+
+// Lists an input: the listing stands at the start of out, whose other bytes stay, and its length is returned. What work then holds is
+// left free.
+pub fn list(input: &[u8], work: &mut Work, out: &mut Lines) -> usize
     ensures { λ r. ⌜ Listed (now (input .entry)) (now (out .entry)) r (now (out .exit)) ⌝ }
     ensures { λ _. ⌜ length (now (work .exit)) ≡ 65488 ⌝ }
 {

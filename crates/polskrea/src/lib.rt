@@ -15,8 +15,11 @@ fn two_complement(z: i64) -> u64
     z as u64
 }
 
+// The fields of an answer, which an exported call leaves as four numbers.
+pub type Fields = [u64; 4];
+
 // The four fields of an answer.
-fn fields(a: Answer) -> [u64; 4]
+fn fields(a: Answer) -> Fields
     ensures { λ r. ⌜ r ≡ fieldsOf a ⌝ }
 {
     match a {
@@ -52,7 +55,7 @@ pub extern "C" fn polskrea_convert(
     to: u8,
     rounding: u8,
     range: u8,
-    answer: &mut [u64; 4],
+    answer: &mut Fields,
 ) -> u8
     ensures { λ r. ⌜ Converted (inputs (now (src .entry)) (now (dst .entry)) (now (keys .entry)) (now (targets .entry)) from to rounding range) r (now (answer .exit)) (now (dst .exit)) ⌝ }
 {
