@@ -1,0 +1,9 @@
+pub mod Again
+pub mod Conversions
+pub mod EntryTypes
+pub mod Lookups
+pub mod Pairs
+pub mod Parts
+pub mod Patterns
+pub mod Places
+pub mod Turns
