@@ -6,4 +6,6 @@ pub mod Pairs
 pub mod Parts
 pub mod Patterns
 pub mod Places
+pub mod Signed
+pub mod Stored
 pub mod Turns

@@ -71,8 +71,8 @@ unmatched from to x rounding range f rule choice e a b =
 
 -- ---- its outcome w, as a program has it in o, stored or refused at the position i
 module _ {D : Type 0} (of : ℕ → D) (ps : List ℕ) (ds : List D) (i : ℕ) (w o : Outcome) (e : o ≡ w) (r : State) where
-  pub stored : (b : ℕ) → o ≡ Stored b → r ≡ stateAt ps (i + 1) → (r ≡ nextState w ps i) × (set ds i (of b) ≡ storedIn of w ds i)
-  stored b f h = let g = sym f ∙ e in (h ∙ ap (λ (z : Outcome). nextState z ps i) g, ap (λ (z : Outcome). storedIn of z ds i) g)
+  pub stored : (b : ℕ) → o ≡ Stored b → (y : D) → y ≡ of b → r ≡ stateAt ps (i + 1) → (r ≡ nextState w ps i) × (set ds i y ≡ storedIn of w ds i)
+  stored b f y g h = let k = sym f ∙ e in (h ∙ ap (λ (z : Outcome). nextState z ps i) k, ap (set ds i) g ∙ ap (λ (z : Outcome). storedIn of z ds i) k)
 
   pub refused : Refuses o → r ≡ stopped i (answerNext o i A.Converted) → (r ≡ nextState w ps i) × (ds ≡ storedIn of w ds i)
   refused f h = (h ∙ state o f ∙ ap (λ (z : Outcome). nextState z ps i) e, kept o f ∙ ap (λ (z : Outcome). storedIn of z ds i) e)

@@ -3,8 +3,9 @@
 use mathlib.Core.Path.{_≡_, refl, sym, ap, ap₂, subst, _∙_}
 use mathlib.Core.List.{List, [], _∷_, _++_, append-assoc, map}
 use Prim.Native.Nat.{ℕ, zero, suc, _+_, _*_, _/_, _%_, _^_, _≤_, _<_}
-use native.Mathlib.Nat.{not-suc-le-zero, le-of-suc-le-suc, zero-mul, mod-eq-of-lt}
+use native.Mathlib.Nat.{mod-lt, one-le-pow, pow-suc, zero-lt-suc, not-suc-le-zero, le-of-suc-le-suc, zero-mul, mod-eq-of-lt}
 use native.Mathlib.Omega.{arith}
+use lib.Arith.{mod-mul, digits-div, digits-mod}
 use lib.ListN.{length, getD, take, drop, set, length-append, length-map, drop-of-length-le}
 use lib.Seq.{take-append-add, drop-append-add, drop-at, drop-cons}
 use Rattle.bytes_le.specs.Bytes.{toLe, patternAt}
@@ -86,3 +87,13 @@ module _ (sw dw : ℕ) (es : List Entry) (none : Entry) (key-fits : (j : ℕ) �
 
   pub entries-back : entriesFrom sw dw keys targets 0 (length es) ≡ es
   entries-back = from-on (length es) 0 (omega arith)
+
+-- ---- the bytes of a number are those of its remainder
+pub low-bytes : (n v : ℕ) → toLe n (v % 256 ^ n) ≡ toLe n v
+low-bytes zero v = refl
+low-bytes (suc n) v =
+    let e : v % 256 ^ suc n ≡ v / 256 % 256 ^ n * 256 + v % 256 = ap (λ (z : ℕ). v % z) (pow-suc 256 n) ∙ mod-mul v (one-le-pow n 256 (zero-lt-suc 255)) (zero-lt-suc 255) in
+    let h : v % 256 < 256 = mod-lt v (zero-lt-suc 255) in
+    ap₂ (λ (x : ℕ) (l : List ℕ). x ∷ l)
+    (ap (λ (z : ℕ). z % 256) e ∙ digits-mod (v / 256 % 256 ^ n) h)
+    (ap (λ (z : ℕ). toLe n (z / 256)) e ∙ ap (toLe n) (digits-div (v / 256 % 256 ^ n) h) ∙ low-bytes n (v / 256))

@@ -1,3 +1,5 @@
+-- Assumes nothing.
+-- `typed::matches_f64_u8` meets its contract: the key's pattern against x.
 use mathlib.Core.Path.{ap, _∙_}
 use Prim.Native.Nat.{ℕ}
 use Rattle.patterns.specs.Kind.{f64}
