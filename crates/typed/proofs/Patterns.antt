@@ -1,16 +1,16 @@
 -- Floats as patterns: each has one below 2 to its format's bits, and what is read from that pattern has it again.
 -- Assumes nothing.
-use mathlib.Core.Path.{_≡_, refl, sym, ap, subst, _∙_}
+-- a float that does not differ from itself is no NaN
 use mathlib.Core.Bool.{Bool, true, false, not, cond, true≢false}
+use mathlib.Core.Path.{_≡_, refl, sym, ap, subst, _∙_}
 use Prim.Native.Nat.{ℕ, _*_, _%_, _≤_, _<_}
-use lib.Dec.{T, lit<}
-use lib.Ieee.{Float, Format, binary32, binary64, nan, inf, fin, fits, isNan, ne, top, ofBits, nanBits, toBits}
 use lib.Ieee.Bits.{ofBits-toBits, toBits-lt, toBits-ofBits, nanBits-is, nanBits-above}
-use borrow.Author.Tests.{lt-ltb, le-ltb}
+use lib.Ieee.{Float, Format, binary32, binary64, nan, inf, fin, fits, isNan, ne, top, ofBits, nanBits, toBits}
 use lib.Ieee.Compare.{differs-from-itself}
+use lib.Dec.{T, lit<}
+use borrow.Author.Tests.{lt-ltb, le-ltb}
 use Rattle.typed.specs.Typed.{floatBits}
 
--- a float that does not differ from itself is no NaN
 pub no-nan : (x : Float) → ne x x ≡ false → T (not (isNan x))
 unfolding isNan ne
 no-nan nan e = subst T e tt

@@ -1,16 +1,16 @@
 -- A signed number's bits, as the machine works them out: those of -1 - z, each turned over, where z lies below zero; and a signed number read from its bits. For any width.
 -- Assumes nothing.
-use mathlib.Core.Path.{_≡_, refl, sym, ap, _∙_, subst}
 use mathlib.Core.Bool.{Bool, true, false, cond, true≢false}
+use mathlib.Core.Path.{_≡_, refl, sym, ap, _∙_, subst}
 use Prim.Native.Nat.{ℕ, zero, suc, _+_, _-_, _%_, _^_, _≤_, _<_}
-use native.Mathlib.Nat.{mod-eq-of-lt, mod-lt, zero-add}
 use native.Mathlib.Omega.{arith}
+use native.Mathlib.Nat.{mod-eq-of-lt, mod-lt, zero-add}
 use lib.Dec.{T, ltb, lit<}
-use lib.IntN.{ℤ, pos, negsuc, _-ℤ_, natAbs}
 use lib.Signed.{ltZ, nonNeg}
+use lib.IntN.{ℤ, pos, negsuc, _-ℤ_, natAbs}
+use mir.ValLaws.{toZ-ofZ}
 use mir.Syntax.{Width, w32, w64}
 use mir.Val.{Fits, SFits, toZ, ofZ, bits, hbits}
-use mir.ValLaws.{toZ-ofZ}
 use borrow.Author.Tests.{ltb-true, lt-ltb, le-ltb}
 use Rattle.patterns.specs.Pattern.{lowBits}
 use Rattle.typed.specs.Loop.{i32Of}

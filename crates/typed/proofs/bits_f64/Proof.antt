@@ -1,22 +1,17 @@
-use Rattle.typed.proofs.Patterns.{no-nan, nan-bits, held-bits}
-use lib.Ieee.{binary64, fits, toBits}
--- Assumes nothing.
 -- `typed::bits_f64` meets its contract: the quiet NaN's pattern, or the float's own.
+-- Assumes nothing.
+use lib.Ieee.{binary64, fits, toBits}
+use Rattle.typed.proofs.Patterns.{no-nan, nan-bits, held-bits}
 use Rattle.typed.proofs.bits_f64.Statement.{statement}
 use Rattle.typed.proofs.bits_f64.Tie as tie
-use Rattle.typed.proofs.bits_f64.Reads as reads
-use Rattle.typed.proofs.bits_f64.Lts as lts
 
--- src/lib.rt:68:9
 returns : tie.Need-returns
 unfolding toBits fits
 returns c = nan-bits binary64 (c .before .args .x) (c .if1 .taken)
 
--- src/lib.rt:70:5
 float-to-bits-result : tie.Need-float-to-bits-result
 float-to-bits-result c = no-nan (c .before .args .x) (c .if1 .left)
 
--- src/lib.rt:64:1
 returns-2 : tie.Need-returns-2
 returns-2 c = held-bits binary64 (c .before .args .x) (c .before .good .0 .1)
 

@@ -1,13 +1,11 @@
-use Rattle.typed.proofs.Signed.{Plain, Turned, plain, turned}
-use mir.Syntax.{w32}
-use lib.Dec.{lit≤}
-use mathlib.Core.Path.{refl}
--- Assumes nothing.
 -- `typed::bits_i32` meets its contract: by the sign, the cast's bits or those of -1 - z turned over.
-use Rattle.typed.proofs.bits_i32.Statement.{statement}
+-- Assumes nothing.
+use mathlib.Core.Path.{refl}
+use lib.Dec.{lit≤}
+use mir.Syntax.{w32}
+use Rattle.typed.proofs.Signed.{Plain, Turned, plain, turned}
 use Rattle.typed.proofs.bits_i32.Tie as tie
-use Rattle.typed.proofs.bits_i32.Reads as reads
-use Rattle.typed.proofs.bits_i32.Lts as lts
+use Rattle.typed.proofs.bits_i32.Statement.{statement}
 
 below : (c : tie.Then1) → Turned w32 refl (lit≤ tt) (c .before .args .z)
 below c = turned w32 refl (lit≤ tt) (c .before .args .z) (c .before .fits .z) (c .if1 .taken)
@@ -15,27 +13,21 @@ below c = turned w32 refl (lit≤ tt) (c .before .args .z) (c .before .fits .z) 
 above : (c : tie.Else1) → Plain w32 refl (lit≤ tt) (c .before .args .z)
 above c = plain w32 refl (lit≤ tt) (c .before .args .z) (c .before .fits .z) (c .if1 .left)
 
--- src/lib.rt:98:32
 sub-result : tie.Need-sub-result
 sub-result c = below c .formed
 
--- src/lib.rt:98:31
 cast-result : tie.Need-cast-result
 cast-result c = below c .cast
 
--- src/lib.rt:98:16
 sub-result-2 : tie.Need-sub-result-2
 sub-result-2 c = below c .less
 
--- src/lib.rt:98:9
 returns : tie.Need-returns
 returns c = below c .low
 
--- src/lib.rt:100:5
 cast-result-2 : tie.Need-cast-result-2
 cast-result-2 c = above c .cast
 
--- src/lib.rt:94:1
 returns-2 : tie.Need-returns-2
 returns-2 c = above c .low
 

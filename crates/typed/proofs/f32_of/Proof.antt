@@ -1,28 +1,22 @@
-use Rattle.typed.proofs.Patterns.{nan-pattern, no-nan-pattern}
-use lib.Ieee.{div, ofBits}
-use Prim.Native.Nat.{_%_, _^_}
--- Assumes nothing.
 -- `typed::f32_of` meets its contract: a NaN, or the float of the bits.
+-- Assumes nothing.
+use Prim.Native.Nat.{_%_, _^_}
+use lib.Ieee.{div, ofBits}
 use borrow.Author.Needs.{needs}
 use Rattle.typed.proofs.f32_of.Statement.{statement}
+use Rattle.typed.proofs.Patterns.{nan-pattern, no-nan-pattern}
 use Rattle.typed.proofs.f32_of.Tie as tie
-use Rattle.typed.proofs.f32_of.Reads as reads
-use Rattle.typed.proofs.f32_of.Lts as lts
 
--- src/lib.rt:127:9
 returns : tie.Need-returns
 unfolding div ofBits
 returns c = nan-pattern (c .before .args .b % 2 ^ 32) (c .if1 .taken)
 
--- src/lib.rt:129:20
 cast-result : tie.Need-cast-result
 cast-result c = search needs
 
--- src/lib.rt:129:5
 float-from-bits-result : tie.Need-float-from-bits-result
 float-from-bits-result c = no-nan-pattern (c .before .args .b % 2 ^ 32) (c .if1 .left)
 
--- src/lib.rt:122:1
 returns-2 : tie.Need-returns-2
 returns-2 c = search needs
 

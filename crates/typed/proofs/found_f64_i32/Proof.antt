@@ -1,22 +1,17 @@
-use Rattle.typed.specs.Typed.{i32Bits}
-use mir.Val.{toZ, ofZ}
-use mir.Syntax.{w32}
-use mathlib.Core.Path.{_≡_, ap, _∙_}
-use Rattle.mapping.specs.declared.Lookup.the-variants.{Found}
--- Assumes nothing.
 -- `typed::found_f64_i32` meets its contract: the target's bits.
+-- Assumes nothing.
+use mathlib.Core.Path.{_≡_, ap, _∙_}
+use mir.Syntax.{w32}
+use mir.Val.{toZ, ofZ}
 use borrow.Author.Needs.{needs}
+use Rattle.mapping.specs.declared.Lookup.the-variants.{Found}
 use Rattle.typed.proofs.found_f64_i32.Statement.{statement}
 use Rattle.typed.proofs.found_f64_i32.Tie as tie
-use Rattle.typed.proofs.found_f64_i32.Reads as reads
-use Rattle.typed.proofs.found_f64_i32.Lts as lts
-use Rattle.typed.proofs.bits_i32.Reads as bits-i32-reads
+use Rattle.typed.specs.Typed.{i32Bits}
 
--- src/lib.rt:375:19
 bits-i32-requires : tie.Need-bits-i32-requires
 bits-i32-requires c κs = search needs
 
--- src/lib.rt:372:1
 -- a signed field is read back from its bits as it was
 held : (c : tie.After-bits-i32) → toZ w32 (ofZ w32 (c .before .before .args .e .target)) ≡ c .before .before .args .e .target
 held c = search needs

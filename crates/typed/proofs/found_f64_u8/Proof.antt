@@ -1,20 +1,16 @@
-use Rattle.mapping.specs.declared.Lookup.the-variants.{Found}
-use native.Mathlib.Nat.{mod-eq-of-lt}
-use Prim.Native.Nat.{_^_, _<_}
-use mathlib.Core.Path.{sym, ap}
--- Assumes nothing.
 -- `typed::found_f64_u8` meets its contract: a u8 is below 256.
+-- Assumes nothing.
+use mathlib.Core.Path.{sym, ap}
+use Prim.Native.Nat.{_^_, _<_}
+use native.Mathlib.Nat.{mod-eq-of-lt}
 use borrow.Author.Needs.{needs}
+use Rattle.mapping.specs.declared.Lookup.the-variants.{Found}
 use Rattle.typed.proofs.found_f64_u8.Statement.{statement}
 use Rattle.typed.proofs.found_f64_u8.Tie as tie
-use Rattle.typed.proofs.found_f64_u8.Reads as reads
-use Rattle.typed.proofs.found_f64_u8.Lts as lts
 
--- src/lib.rt:303:19
 cast-t2 : tie.Need-cast-t2
 cast-t2 c = search needs
 
--- src/lib.rt:300:1
 held : (c : tie.After-struct-known) → c .before .args .e .target < 2 ^ 8
 held c = search needs
 

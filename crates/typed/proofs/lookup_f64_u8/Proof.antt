@@ -1,18 +1,18 @@
 -- `typed::lookup_f64_u8` meets its contract: the lookup of every entry, at this entry's type.
 -- Assumes nothing.
-use denote.Triple.Spec.{tripleOf}
-use denote.Triple.Table.{entered, cited}
 use contract.Running.{givenOf, tables, tablesOf}
-use Rattle.typed.proofs.Lookups.{Test, FoundIn, meets}
-use Rattle.typed.proofs.EntryTypes.{f64-to-u8}
+use denote.Triple.Table.{entered, cited}
+use denote.Triple.Spec.{tripleOf}
 use Rattle.typed.proofs.matches_f64_u8.Symbol as test
-use Rattle.typed.proofs.matches_f64_u8.Met as test-thm
-use Rattle.typed.proofs.found_f64_u8.Symbol as found
-use Rattle.typed.proofs.found_f64_u8.Met as found-thm
 use Rattle.typed.proofs.lookup_f64_u8 as lookup
 use Rattle.typed.proofs.lookup_f64_u8.Key.{name}
-use Rattle.typed.proofs.lookup_f64_u8.Statement as stated
 use Rattle.typed.proofs.lookup_f64_u8.Code as code
+use Rattle.typed.proofs.found_f64_u8.Symbol as found
+use Rattle.typed.proofs.matches_f64_u8.Met as test-thm
+use Rattle.typed.proofs.Lookups.{Test, FoundIn, meets}
+use Rattle.typed.proofs.found_f64_u8.Met as found-thm
+use Rattle.typed.proofs.lookup_f64_u8.Statement as stated
+use Rattle.typed.proofs.EntryTypes.{f64-to-u8}
 
 pub lookup-f64-u8-spec : {M : Type 1} → stated.statement M
 unfolding code.routine tablesOf

@@ -1,25 +1,19 @@
-use mir.Val.{toZ, ofZ}
-use mir.Syntax.{w64}
-use mathlib.Core.Path.{_≡_}
-use Rattle.typed.proofs.Pairs.{i64-fits}
-use Rattle.typed.specs.Typed.{i64Bits}
-use Rattle.mapping.proofs.Codes.{coded-integers-match}
-use lib.Dec.{eqb, lit<}
-use mathlib.Core.Path.{ap, _∙_}
--- Assumes nothing.
 -- `typed::matches_i64_f32` meets its contract: integers are equal where their patterns are.
+-- Assumes nothing.
+use mathlib.Core.Path.{_≡_, ap, _∙_}
+use lib.Dec.{eqb, lit<}
+use mir.Syntax.{w64}
+use mir.Val.{toZ, ofZ}
 use borrow.Author.Needs.{needs}
+use Rattle.mapping.proofs.Codes.{coded-integers-match}
+use Rattle.typed.specs.Typed.{i64Bits}
 use Rattle.typed.proofs.matches_i64_f32.Statement.{statement}
 use Rattle.typed.proofs.matches_i64_f32.Tie as tie
-use Rattle.typed.proofs.matches_i64_f32.Reads as reads
-use Rattle.typed.proofs.matches_i64_f32.Lts as lts
-use Rattle.typed.proofs.bits_i64.Reads as bits-i64-reads
+use Rattle.typed.proofs.Pairs.{i64-fits}
 
--- src/lib.rt:584:10
 bits-i64-requires : tie.Need-bits-i64-requires
 bits-i64-requires c κs = search needs
 
--- src/lib.rt:580:1
 -- a signed field is read back from its bits as it was
 held : (c : tie.After-bits-i64) → toZ w64 (ofZ w64 (c .before .before .args .e .key)) ≡ c .before .before .args .e .key
 held c = search needs

@@ -1,50 +1,37 @@
-use Rattle.typed.proofs.Parts.{unmatched}
-use Rattle.typed.specs.Loop.{outcomeFor}
-use Rattle.mapping.specs.declared.Lookup.{Lookup}
+-- `typed::outcome` meets its contract: what an entry has, or what the conversion gives.
+-- Assumes nothing.
 use mathlib.Core.Path.{sym, ap, _∙_}
 use borrow.Author.Needs.{needs}
-use Rattle.typed.proofs.outcome.Statement.{statement}
+use Rattle.mapping.specs.declared.Lookup.{Lookup}
 use Rattle.typed.proofs.outcome.Tie as tie
-use Rattle.typed.proofs.outcome.Reads as reads
-use Rattle.typed.proofs.outcome.Lts as lts
-use Rattle.element.proofs.convert_element.Reads as convert-element-reads
-use Rattle.kinds.proofs.range_of.Reads as range-of-reads
-use Rattle.kinds.proofs.rounding_of.Reads as rounding-of-reads
-use Rattle.kinds.proofs.row_of.Reads as row-of-reads
+use Rattle.typed.specs.Loop.{outcomeFor}
+use Rattle.typed.proofs.Parts.{unmatched}
+use Rattle.typed.proofs.outcome.Statement.{statement}
 
--- src/lib.rt:96:23
 enum-known-f : tie.Need-enum-known-f
 enum-known-f c = search needs
 
--- src/lib.rt:101:13
 enum-told : tie.Need-enum-told
 enum-told c = search needs
 
--- src/lib.rt:101:13
 row-of-requires : tie.Need-row-of-requires
 row-of-requires c κs = search needs
 
--- src/lib.rt:102:13
 row-of-requires-2 : tie.Need-row-of-requires-2
 row-of-requires-2 c κs = search needs
 
--- src/lib.rt:103:13
 rounding-of-requires : tie.Need-rounding-of-requires
 rounding-of-requires c κs = search needs
 
--- src/lib.rt:104:13
 range-of-requires : tie.Need-range-of-requires
 range-of-requires c κs = search needs
 
--- src/lib.rt:97:28
 convert-element-requires : tie.Need-convert-element-requires
 convert-element-requires c κs = search needs
 
--- src/lib.rt:91:1
 returns : tie.Need-returns
 returns c = let a = c .before .before .before .args in ap (λ (f : Lookup). outcomeFor (a .from) (a .to) (a .x) f (a .rounding) (a .range)) (sym (c .before .f .given .1))
 
--- src/lib.rt:91:1
 returns-2 : tie.Need-returns-2
 returns-2 c = let a = c .before .before .before .before .before .before .before .args in c .convert-element .ensures ∙ unmatched (a .from) (a .to) (a .x) (a .rounding) (a .range) (a .f) (c .before .before .rounding-of .result) (c .before .range-of .result) (c .before .before .before .before .before .enum-told .given .1) (c .before .before .rounding-of .ensures) (c .before .range-of .ensures)
 

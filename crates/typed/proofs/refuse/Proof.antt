@@ -1,22 +1,17 @@
-use Rattle.typed.specs.Loop.{stopped}
+-- `typed::refuse` meets its contract: the answer of the refusal.
+-- Assumes nothing.
 use mathlib.Core.Path.{ap, _∙_}
 use borrow.Author.Needs.{needs}
-use Rattle.typed.proofs.refuse.Statement.{statement}
+use Rattle.typed.specs.Loop.{stopped}
 use Rattle.typed.proofs.refuse.Tie as tie
-use Rattle.typed.proofs.refuse.Reads as reads
-use Rattle.typed.proofs.refuse.Lts as lts
-use Rattle.chunk.proofs.refusal.Reads as refusal-reads
-use Rattle.typed.proofs.stop.Reads as stop-reads
+use Rattle.typed.proofs.refuse.Statement.{statement}
 
--- src/lib.rt:113:14
 refusal-requires : tie.Need-refusal-requires
 refusal-requires c κs = search needs
 
--- src/lib.rt:113:5
 stop-requires : tie.Need-stop-requires
 stop-requires c κs = search needs
 
--- src/lib.rt:110:1
 returns : tie.Need-returns
 returns c = let a = c .before .before .args in c .stop .ensures ∙ ap (stopped (a .at)) (c .before .refusal .ensures)
 

@@ -1,29 +1,21 @@
-use Rattle.typed.proofs.Parts.{starts, refuses-start}
-use Rattle.typed.specs.Typed.{i64Bits}
-use denote.Ref.{now}
--- Assumes nothing.
 -- `typed::start_i64` meets its contract: the checks, then the first element.
+-- Assumes nothing.
+use denote.Ref.{now}
 use borrow.Author.Needs.{needs}
 use Rattle.typed.proofs.start_i64.Statement.{statement}
+use Rattle.typed.proofs.Parts.{starts, refuses-start}
 use Rattle.typed.proofs.start_i64.Tie as tie
-use Rattle.typed.proofs.start_i64.Reads as reads
-use Rattle.typed.proofs.start_i64.Lts as lts
-use Rattle.typed.proofs.check.Reads as check-reads
-use Rattle.typed.proofs.state_i64.Reads as state-i64-reads
+use Rattle.typed.specs.Typed.{i64Bits}
 
--- src/lib.rt:282:9
 check-requires : tie.Need-check-requires
 check-requires c κs = search needs
 
--- src/lib.rt:284:9
 state-i64-requires : tie.Need-state-i64-requires
 state-i64-requires c κs = search needs
 
--- src/lib.rt:284:9
 returns : tie.Need-returns
 returns c = let a = c .before .before .before .args in starts i64Bits (now (a .src)) (a .room) (a .rounding) (a .range) (c .before .before .check .result) (c .before .before .check .ensures) (c .before .if1 .taken) (c .state-i64 .result) (c .state-i64 .ensures)
 
--- src/lib.rt:279:1
 returns-2 : tie.Need-returns-2
 returns-2 c = let a = c .before .before .args in refuses-start i64Bits (now (a .src)) (a .room) (a .rounding) (a .range) (c .before .check .result) (c .before .check .ensures) (c .if1 .left)
 

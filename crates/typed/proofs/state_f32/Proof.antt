@@ -1,38 +1,28 @@
-use Rattle.typed.proofs.Parts.{within, past}
-use Rattle.typed.specs.Typed.{f32Bits}
-use denote.Ref.{now}
-use mathlib.Core.Path.{_∙_}
--- Assumes nothing.
 -- `typed::state_f32` meets its contract: the element's pattern, or the end.
+-- Assumes nothing.
+use mathlib.Core.Path.{_∙_}
+use denote.Ref.{now}
 use borrow.Author.Needs.{needs}
+use Rattle.typed.proofs.Parts.{within, past}
 use Rattle.typed.proofs.state_f32.Statement.{statement}
 use Rattle.typed.proofs.state_f32.Tie as tie
-use Rattle.typed.proofs.state_f32.Reads as reads
-use Rattle.typed.proofs.state_f32.Lts as lts
-use Rattle.typed.proofs.bits_f32.Reads as bits-f32-reads
-use Rattle.typed.proofs.stop.Reads as stop-reads
+use Rattle.typed.specs.Typed.{f32Bits}
 
--- src/lib.rt:240:26
 mul-bits-f32 : tie.Need-mul-bits-f32
 mul-bits-f32 c = search needs
 
--- src/lib.rt:240:26
 shared-slice-read-bits-f32 : tie.Need-shared-slice-read-bits-f32
 shared-slice-read-bits-f32 c = search needs
 
--- src/lib.rt:240:13
 bits-f32-requires : tie.Need-bits-f32-requires
 bits-f32-requires c κs = search needs
 
--- src/lib.rt:241:9
 returns : tie.Need-returns
 returns c = let a = c .before .before .before .before .args in within f32Bits (now (a .src)) (a .at) _ _ (c .before .before .if1 .taken) (c .bits-f32 .ensures)
 
--- src/lib.rt:248:5
 stop-requires : tie.Need-stop-requires
 stop-requires c κs = search needs
 
--- src/lib.rt:236:1
 returns-2 : tie.Need-returns-2
 returns-2 c = let a = c .before .before .before .args in c .stop .ensures ∙ past f32Bits (now (a .src)) (a .at) (c .before .if1 .left)
 

@@ -1,58 +1,42 @@
-use Rattle.typed.proofs.Parts.{stored, refused}
-use Rattle.typed.specs.Loop.{outcomeFor, u8Of}
-use Rattle.typed.specs.Typed.{f32Bits}
-use Rattle.chunk.proofs.Elements.{refuses}
-use denote.Ref.{now}
-use mathlib.Core.List.{map}
--- Assumes nothing.
 -- `typed::step_f32_u8` meets its contract: the element is stored, or refused.
+-- Assumes nothing.
+use mathlib.Core.List.{map}
+use denote.Ref.{now}
 use borrow.Author.Needs.{needs}
-use Rattle.typed.proofs.step_f32_u8.Statement.{statement}
+use Rattle.chunk.proofs.Elements.{refuses}
+use Rattle.typed.specs.Loop.{outcomeFor, u8Of}
+use Rattle.typed.proofs.Parts.{stored, refused}
 use Rattle.typed.proofs.step_f32_u8.Tie as tie
-use Rattle.typed.proofs.step_f32_u8.Reads as reads
-use Rattle.typed.proofs.step_f32_u8.Lts as lts
-use Rattle.typed.proofs.outcome.Reads as outcome-reads
-use Rattle.typed.proofs.refuse.Reads as refuse-reads
-use Rattle.typed.proofs.state_f32.Reads as state-f32-reads
-use Rattle.typed.proofs.u8_of.Reads as u8-of-reads
+use Rattle.typed.specs.Typed.{f32Bits}
+use Rattle.typed.proofs.step_f32_u8.Statement.{statement}
 
--- src/lib.rt:479:9
 outcome-requires : tie.Need-outcome-requires
 outcome-requires c κs = search needs
 
--- src/lib.rt:480:28
 enum-known-o : tie.Need-enum-known-o
 enum-known-o c = search needs
 
--- src/lib.rt:481:19
 u8-of-requires : tie.Need-u8-of-requires
 u8-of-requires c κs = search needs
 
--- src/lib.rt:481:9
 slice-write-dst : tie.Need-slice-write-dst
 slice-write-dst c = search needs
 
--- src/lib.rt:482:31
 add-state-f32 : tie.Need-add-state-f32
 add-state-f32 c = search needs
 
--- src/lib.rt:482:9
 state-f32-requires : tie.Need-state-f32-requires
 state-f32-requires c κs = search needs
 
--- src/lib.rt:482:9
 same-length : tie.Need-same-length
 same-length c = search needs
 
--- src/lib.rt:482:9
 returns : tie.Need-returns
 returns c = let a = c .before .before .before .before .before .before .before .before .args in stored u8Of (map f32Bits (now (a .src))) (now (a .dst)) (a .s .at) (outcomeFor 8 4 (a .s .x) (a .f) (a .rounding) (a .range)) _ (c .before .before .before .before .before .outcome .ensures) (c .state-f32 .result) (c .before .before .before .o .given .0 .0) (c .before .before .before .o .given .1) (c .before .u8-of .result) (c .before .u8-of .ensures) (c .state-f32 .ensures)
 
--- src/lib.rt:484:5
 refuse-requires : tie.Need-refuse-requires
 refuse-requires c κs = search needs
 
--- src/lib.rt:467:1
 returns-2 : tie.Need-returns-2
 returns-2 c = let a = c .before .before .before .before .before .args in refused u8Of (map f32Bits (now (a .src))) (now (a .dst)) (a .s .at) (outcomeFor 8 4 (a .s .x) (a .f) (a .rounding) (a .range)) (c .before .before .outcome .result) (c .before .before .outcome .ensures) (c .refuse .result) (refuses (c .before .before .outcome .result) (c .before .match .keys2)) (c .refuse .ensures)
 

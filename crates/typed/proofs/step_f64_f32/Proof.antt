@@ -1,62 +1,45 @@
-use Rattle.typed.proofs.Parts.{stored, refused}
-use Rattle.typed.specs.Loop.{outcomeFor, f32Of}
-use Rattle.typed.specs.Typed.{f64Bits}
-use Rattle.chunk.proofs.Elements.{refuses}
-use denote.Ref.{now}
-use mathlib.Core.List.{map}
--- Assumes nothing.
 -- `typed::step_f64_f32` meets its contract: the element is stored, or refused.
+-- Assumes nothing.
+use mathlib.Core.List.{map}
+use denote.Ref.{now}
 use borrow.Author.Needs.{needs}
-use Rattle.typed.proofs.step_f64_f32.Statement.{statement}
+use Rattle.chunk.proofs.Elements.{refuses}
+use Rattle.typed.proofs.Parts.{stored, refused}
 use Rattle.typed.proofs.step_f64_f32.Tie as tie
-use Rattle.typed.proofs.step_f64_f32.Reads as reads
-use Rattle.typed.proofs.step_f64_f32.Lts as lts
-use Rattle.typed.proofs.f32_of.Reads as f32-of-reads
-use Rattle.typed.proofs.outcome.Reads as outcome-reads
-use Rattle.typed.proofs.refuse.Reads as refuse-reads
-use Rattle.typed.proofs.state_f64.Reads as state-f64-reads
+use Rattle.typed.specs.Typed.{f64Bits}
+use Rattle.typed.specs.Loop.{outcomeFor, f32Of}
+use Rattle.typed.proofs.step_f64_f32.Statement.{statement}
 
--- src/lib.rt:551:9
 outcome-requires : tie.Need-outcome-requires
 outcome-requires c κs = search needs
 
--- src/lib.rt:552:28
 enum-known-o : tie.Need-enum-known-o
 enum-known-o c = search needs
 
--- src/lib.rt:553:19
 f32-of-requires : tie.Need-f32-of-requires
 f32-of-requires c κs = search needs
 
--- src/lib.rt:553:9
 mul-dst : tie.Need-mul-dst
 mul-dst c = search needs
 
--- src/lib.rt:553:9
 slice-write-dst : tie.Need-slice-write-dst
 slice-write-dst c = search needs
 
--- src/lib.rt:554:31
 add-state-f64 : tie.Need-add-state-f64
 add-state-f64 c = search needs
 
--- src/lib.rt:554:9
 state-f64-requires : tie.Need-state-f64-requires
 state-f64-requires c κs = search needs
 
--- src/lib.rt:554:9
 same-length : tie.Need-same-length
 same-length c = search needs
 
--- src/lib.rt:554:9
 returns : tie.Need-returns
 returns c = let a = c .before .before .before .before .before .before .before .before .args in stored f32Of (map f64Bits (now (a .src))) (now (a .dst)) (a .s .at) (outcomeFor 9 8 (a .s .x) (a .f) (a .rounding) (a .range)) _ (c .before .before .before .before .before .outcome .ensures) (c .state-f64 .result) (c .before .before .before .o .given .0 .0) (c .before .before .before .o .given .1) (c .before .f32-of .result) (c .before .f32-of .ensures) (c .state-f64 .ensures)
 
--- src/lib.rt:556:5
 refuse-requires : tie.Need-refuse-requires
 refuse-requires c κs = search needs
 
--- src/lib.rt:539:1
 returns-2 : tie.Need-returns-2
 returns-2 c = let a = c .before .before .before .before .before .args in refused f32Of (map f64Bits (now (a .src))) (now (a .dst)) (a .s .at) (outcomeFor 9 8 (a .s .x) (a .f) (a .rounding) (a .range)) (c .before .before .outcome .result) (c .before .before .outcome .ensures) (c .refuse .result) (refuses (c .before .before .outcome .result) (c .before .match .keys2)) (c .refuse .ensures)
 

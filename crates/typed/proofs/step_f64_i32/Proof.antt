@@ -1,57 +1,42 @@
+-- `typed::step_f64_i32` meets its contract: the element is stored, or refused.
+-- Assumes nothing.
 use mathlib.Core.Path.{_≡_, _∙_}
+use mathlib.Core.List.{map}
 use mir.Syntax.{w32}
 use mir.Val.{toZ, ofZ}
-use Rattle.typed.proofs.Parts.{stored, refused}
-use Rattle.typed.specs.Loop.{outcomeFor, i32Of}
-use Rattle.typed.specs.Typed.{f64Bits}
-use Rattle.chunk.proofs.Elements.{refuses}
 use denote.Ref.{now}
-use mathlib.Core.List.{map}
--- Assumes nothing.
--- `typed::step_f64_i32` meets its contract: the element is stored, or refused.
 use borrow.Author.Needs.{needs}
-use Rattle.typed.proofs.step_f64_i32.Statement.{statement}
+use Rattle.chunk.proofs.Elements.{refuses}
+use Rattle.typed.specs.Loop.{outcomeFor, i32Of}
+use Rattle.typed.proofs.Parts.{stored, refused}
+use Rattle.typed.specs.Typed.{f64Bits}
 use Rattle.typed.proofs.step_f64_i32.Tie as tie
-use Rattle.typed.proofs.step_f64_i32.Reads as reads
-use Rattle.typed.proofs.step_f64_i32.Lts as lts
-use Rattle.typed.proofs.i32_of.Reads as i32-of-reads
-use Rattle.typed.proofs.outcome.Reads as outcome-reads
-use Rattle.typed.proofs.refuse.Reads as refuse-reads
-use Rattle.typed.proofs.state_f64.Reads as state-f64-reads
+use Rattle.typed.proofs.step_f64_i32.Statement.{statement}
 
--- src/lib.rt:407:9
 outcome-requires : tie.Need-outcome-requires
 outcome-requires c κs = search needs
 
--- src/lib.rt:408:28
 enum-known-o : tie.Need-enum-known-o
 enum-known-o c = search needs
 
--- src/lib.rt:409:19
 i32-of-requires : tie.Need-i32-of-requires
 i32-of-requires c κs = search needs
 
--- src/lib.rt:409:9
 mul-t11 : tie.Need-mul-t11
 mul-t11 c = search needs
 
--- src/lib.rt:409:9
 slice-set-from-dst : tie.Need-slice-set-from-dst
 slice-set-from-dst c = search needs
 
--- src/lib.rt:410:31
 add-state-f64 : tie.Need-add-state-f64
 add-state-f64 c = search needs
 
--- src/lib.rt:410:9
 state-f64-requires : tie.Need-state-f64-requires
 state-f64-requires c κs = search needs
 
--- src/lib.rt:410:9
 same-length : tie.Need-same-length
 same-length c = search needs
 
--- src/lib.rt:410:9
 -- a signed number is read back from its bits as it was
 held : (c : tie.After-state-f64) → toZ w32 (ofZ w32 (c .before .i32-of .result)) ≡ c .before .i32-of .result
 held c = search needs
@@ -59,11 +44,9 @@ held c = search needs
 returns : tie.Need-returns
 returns c = let a = c .before .before .before .before .before .before .before .args in stored i32Of (map f64Bits (now (a .src))) (now (a .dst)) (a .s .at) (outcomeFor 9 2 (a .s .x) (a .f) (a .rounding) (a .range)) _ (c .before .before .before .before .before .outcome .ensures) (c .state-f64 .result) (c .before .before .before .o .given .0 .0) (c .before .before .before .o .given .1) _ (held c ∙ c .before .i32-of .ensures) (c .state-f64 .ensures)
 
--- src/lib.rt:412:5
 refuse-requires : tie.Need-refuse-requires
 refuse-requires c κs = search needs
 
--- src/lib.rt:395:1
 returns-2 : tie.Need-returns-2
 returns-2 c = let a = c .before .before .before .before .args in refused i32Of (map f64Bits (now (a .src))) (now (a .dst)) (a .s .at) (outcomeFor 9 2 (a .s .x) (a .f) (a .rounding) (a .range)) (c .before .before .outcome .result) (c .before .before .outcome .ensures) (c .refuse .result) (refuses (c .before .before .outcome .result) (c .before .match .keys2)) (c .refuse .ensures)
 

@@ -1,58 +1,42 @@
-use Rattle.typed.proofs.Parts.{stored, refused}
-use Rattle.typed.specs.Loop.{outcomeFor, u8Of}
-use Rattle.typed.specs.Typed.{f64Bits}
-use Rattle.chunk.proofs.Elements.{refuses}
-use denote.Ref.{now}
-use mathlib.Core.List.{map}
--- Assumes nothing.
 -- `typed::step_f64_u8` meets its contract: the element is stored, or refused.
+-- Assumes nothing.
+use mathlib.Core.List.{map}
+use denote.Ref.{now}
 use borrow.Author.Needs.{needs}
+use Rattle.chunk.proofs.Elements.{refuses}
 use Rattle.typed.proofs.step_f64_u8.Statement.{statement}
+use Rattle.typed.specs.Loop.{outcomeFor, u8Of}
+use Rattle.typed.proofs.Parts.{stored, refused}
+use Rattle.typed.specs.Typed.{f64Bits}
 use Rattle.typed.proofs.step_f64_u8.Tie as tie
-use Rattle.typed.proofs.step_f64_u8.Reads as reads
-use Rattle.typed.proofs.step_f64_u8.Lts as lts
-use Rattle.typed.proofs.outcome.Reads as outcome-reads
-use Rattle.typed.proofs.refuse.Reads as refuse-reads
-use Rattle.typed.proofs.state_f64.Reads as state-f64-reads
-use Rattle.typed.proofs.u8_of.Reads as u8-of-reads
 
--- src/lib.rt:335:9
 outcome-requires : tie.Need-outcome-requires
 outcome-requires c κs = search needs
 
--- src/lib.rt:336:28
 enum-known-o : tie.Need-enum-known-o
 enum-known-o c = search needs
 
--- src/lib.rt:337:19
 u8-of-requires : tie.Need-u8-of-requires
 u8-of-requires c κs = search needs
 
--- src/lib.rt:337:9
 slice-write-dst : tie.Need-slice-write-dst
 slice-write-dst c = search needs
 
--- src/lib.rt:338:31
 add-state-f64 : tie.Need-add-state-f64
 add-state-f64 c = search needs
 
--- src/lib.rt:338:9
 state-f64-requires : tie.Need-state-f64-requires
 state-f64-requires c κs = search needs
 
--- src/lib.rt:338:9
 same-length : tie.Need-same-length
 same-length c = search needs
 
--- src/lib.rt:338:9
 returns : tie.Need-returns
 returns c = let a = c .before .before .before .before .before .before .before .before .args in stored u8Of (map f64Bits (now (a .src))) (now (a .dst)) (a .s .at) (outcomeFor 9 4 (a .s .x) (a .f) (a .rounding) (a .range)) _ (c .before .before .before .before .before .outcome .ensures) (c .state-f64 .result) (c .before .before .before .o .given .0 .0) (c .before .before .before .o .given .1) (c .before .u8-of .result) (c .before .u8-of .ensures) (c .state-f64 .ensures)
 
--- src/lib.rt:340:5
 refuse-requires : tie.Need-refuse-requires
 refuse-requires c κs = search needs
 
--- src/lib.rt:323:1
 returns-2 : tie.Need-returns-2
 returns-2 c = let a = c .before .before .before .before .before .args in refused u8Of (map f64Bits (now (a .src))) (now (a .dst)) (a .s .at) (outcomeFor 9 4 (a .s .x) (a .f) (a .rounding) (a .range)) (c .before .before .outcome .result) (c .before .before .outcome .ensures) (c .refuse .result) (refuses (c .before .before .outcome .result) (c .before .match .keys2)) (c .refuse .ensures)
 
