@@ -1,6 +1,7 @@
 pub mod Again
 pub mod Conversions
 pub mod EntryTypes
+pub mod LendArray
 pub mod Lookups
 pub mod Pairs
 pub mod Parts
@@ -8,4 +9,5 @@ pub mod Patterns
 pub mod Places
 pub mod Signed
 pub mod Stored
+pub mod Threes
 pub mod Turns

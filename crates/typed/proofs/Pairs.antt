@@ -1,36 +1,32 @@
 -- The five pairs of kinds, each by its types and its patterns.
 -- Assumes nothing.
 use mathlib.Core.List.{List, [], _∷_, map}
-use mathlib.Core.Bool.{true}
 use mathlib.Core.Path.{_≡_, refl, ap, subst, sym, _∙_}
+use mathlib.Core.Bool.{true}
 use Prim.Native.Nat.{ℕ, _%_, _^_, _<_}
 use native.Mathlib.Nat.{mod-lt, mod-mod}
 use lib.Dec.{lit<}
-use lib.IntN.{ℤ}
 use lib.Ieee.{Float, binary32, binary64}
+use lib.IntN.{ℤ}
 use denote.Builtin as B
 use Rattle.bytes_le.specs.Bytes.{toLe}
 use Rattle.patterns.specs.Pattern.{nanPattern}
-use Rattle.patterns.proofs.AnyKind.{unit-pos}
 use Rattle.patterns.proofs.Integers.{low-bits-lt}
 use Rattle.patterns.specs.Kind.{f64}
+use Rattle.patterns.proofs.AnyKind.{unit-pos}
 use Rattle.kinds.specs.declared.Outcome.the-variants.{Stored}
 use Rattle.cast_spec.specs.Element.{outcomeOf}
-use Rattle.typed.proofs.Turns.{settings}
-use Rattle.typed.specs.declared.Entry.{Entry}
-use Rattle.typed.proofs.Entry as Entry
-use Rattle.typed.specs.declared.EntryI64F32.{EntryI64F32}
-use Rattle.typed.proofs.Patterns.{bits-below}
-use Rattle.typed.proofs.EntryF64U8 as EntryF64U8
-use Rattle.typed.proofs.Stored.{Back, quiet, quiet-kept, no-integer-nan, bits-are-back, read-back, stored-back}
-use Rattle.typed.specs.Loop.{u8Of, i32Of, f32Of}
-use Rattle.typed.proofs.EntryF64I32 as EntryF64I32
 use Rattle.typed.proofs.Conversions.{Pair}
-use Rattle.typed.proofs.EntryI64F32 as EntryI64F32
-use Rattle.typed.proofs.EntryF32U8 as EntryF32U8
+use Rattle.typed.proofs.Places.{low-bytes}
+use Rattle.typed.specs.declared.EntryI64F32.{EntryI64F32}
+use Rattle.typed.proofs.Stored.{Back, quiet, quiet-kept, no-integer-nan, bits-are-back, read-back, stored-back}
+use Rattle.typed.specs.declared.Entry.{Entry}
+use Rattle.typed.proofs.EntryTypes as entries
+use Rattle.typed.specs.Loop.{u8Of, i32Of, f32Of}
 use Rattle.typed.proofs.Signed.{again}
 use Rattle.typed.specs.Typed.{f64Bits, f32Bits, i64Bits, u8Bits, i32Bits, f64U8, f64I32, f32U8, f64F32, i64F32}
-use Rattle.typed.proofs.Places.{low-bytes}
+use Rattle.typed.proofs.Patterns.{bits-below}
+use Rattle.typed.proofs.Turns.{settings}
 
 -- ---- patterns fit
 pub f64-fits : (x : Float) → f64Bits x < 2 ^ 64
@@ -65,10 +61,9 @@ abbrev pub f64-to-u8 : Pair
 f64-to-u8 = record {
   source = B.f64;
   target = B.u8;
-  entry = EntryF64U8.the-row;
+  entry = entries.f64-to-u8;
   source-one = tt;
   target-one = tt;
-  entry-one = tt;
   elements = record {
     from = 9;
     to = 4;
@@ -89,10 +84,9 @@ abbrev pub f64-to-i32 : Pair
 f64-to-i32 = record {
   source = B.f64;
   target = B.i32;
-  entry = EntryF64I32.the-row;
+  entry = entries.f64-to-i32;
   source-one = tt;
   target-one = tt;
-  entry-one = tt;
   elements = record {
     from = 9;
     to = 2;
@@ -113,10 +107,9 @@ abbrev pub f32-to-u8 : Pair
 f32-to-u8 = record {
   source = B.f32;
   target = B.u8;
-  entry = EntryF32U8.the-row;
+  entry = entries.f32-to-u8;
   source-one = tt;
   target-one = tt;
-  entry-one = tt;
   elements = record {
     from = 8;
     to = 4;
@@ -137,10 +130,9 @@ abbrev pub f64-to-f32 : Pair
 f64-to-f32 = record {
   source = B.f64;
   target = B.f32;
-  entry = Entry.the-row;
+  entry = entries.f64-to-f32;
   source-one = tt;
   target-one = tt;
-  entry-one = tt;
   elements = record {
     from = 9;
     to = 8;
@@ -161,10 +153,9 @@ abbrev pub i64-to-f32 : Pair
 i64-to-f32 = record {
   source = B.i64;
   target = B.f32;
-  entry = EntryI64F32.the-row;
+  entry = entries.i64-to-f32;
   source-one = tt;
   target-one = tt;
-  entry-one = tt;
   elements = record {
     from = 3;
     to = 8;

@@ -10,14 +10,14 @@ use borrow.Author.Tests.{lt-ltb, le-ltb, eq-eqb, ne-eqb}
 use Rattle.grid.specs.declared.RoundingMode.{RoundingMode}
 use Rattle.kinds.specs.declared.Outcome.the-variants.{Stored, NanOrInf, OutOfRange, FloatOutOfRange}
 use Rattle.kinds.specs.Codes.{kindOf, roundingOf, rangeOf}
-use Rattle.kinds.specs.declared.Outcome.{Outcome}
 use Rattle.kinds.specs.declared.Answer.the-variants as A
 use Rattle.kinds.specs.declared.OutOfRangeMode.{OutOfRangeMode}
+use Rattle.kinds.specs.declared.Outcome.{Outcome}
 use Rattle.mapping.specs.declared.Lookup.the-variants.{Missing}
 use Rattle.mapping.specs.declared.Lookup.{Lookup}
 use Rattle.element.specs.Convert.{unmapped}
-use Rattle.cast_spec.specs.Demand3.{Refuses}
 use Rattle.cast_spec.specs.Chunk.{answerNext}
+use Rattle.cast_spec.specs.Demand3.{Refuses}
 use Rattle.typed.specs.Loop.{going, stopped, stateAt, checkOf, startOf, outcomeFor, nextState, storedIn}
 use Rattle.typed.specs.declared.State.{State}
 

@@ -30,12 +30,16 @@ pub struct EntryF64U8 {
     pub target: u8,
 }
 
+pub type ThreeEntryF64U8 = [EntryF64U8; 3];
+
 // A map entry of f64 to i32.
 #[repr(C)]
 pub struct EntryF64I32 {
     pub key: f64,
     pub target: i32,
 }
+
+pub type ThreeEntryF64I32 = [EntryF64I32; 3];
 
 // A map entry of f32 to u8.
 #[repr(C)]
@@ -44,6 +48,8 @@ pub struct EntryF32U8 {
     pub target: u8,
 }
 
+pub type ThreeEntryF32U8 = [EntryF32U8; 3];
+
 // A map entry of f64 to f32: a record of two floats.
 #[repr(C)]
 pub struct Entry {
@@ -51,12 +57,16 @@ pub struct Entry {
     pub target: f32,
 }
 
+pub type ThreeEntry = [Entry; 3];
+
 // A map entry of i64 to f32.
 #[repr(C)]
 pub struct EntryI64F32 {
     pub key: i64,
     pub target: f32,
 }
+
+pub type ThreeEntryI64F32 = [EntryI64F32; 3];
 
 // ---- patterns
 
@@ -351,6 +361,19 @@ pub fn convert_f64_to_u8(
     answer_of(s)
 }
 
+// The same with three entries by value, for callers that have no slice of them.
+pub fn convert_f64_to_u8_with3(
+    src: &[f64],
+    dst: &mut [u8],
+    entries: ThreeEntryF64U8,
+    rounding: u8,
+    range: u8,
+) -> Answer
+    ensures { λ r. ⌜ TypedContract 9 4 (map f64Bits (now (src .entry))) (map u8Bits (now (dst .entry))) (map f64U8 entries) rounding range r (map u8Bits (now (dst .exit))) ⌝ }
+{
+    convert_f64_to_u8(src, dst, &entries, rounding, range)
+}
+
 // ---- f64 to i32
 
 // Whether an entry's key matches the f64 of the pattern x.
@@ -414,6 +437,19 @@ pub fn convert_f64_to_i32(
         s = step_f64_i32(src, dst, s, f, rounding, range);
     }
     answer_of(s)
+}
+
+// The same with three entries by value, for callers that have no slice of them.
+pub fn convert_f64_to_i32_with3(
+    src: &[f64],
+    dst: &mut [i32],
+    entries: ThreeEntryF64I32,
+    rounding: u8,
+    range: u8,
+) -> Answer
+    ensures { λ r. ⌜ TypedContract 9 2 (map f64Bits (now (src .entry))) (map i32Bits (now (dst .entry))) (map f64I32 entries) rounding range r (map i32Bits (now (dst .exit))) ⌝ }
+{
+    convert_f64_to_i32(src, dst, &entries, rounding, range)
 }
 
 // ---- f32 to u8
@@ -481,6 +517,19 @@ pub fn convert_f32_to_u8(
     answer_of(s)
 }
 
+// The same with three entries by value, for callers that have no slice of them.
+pub fn convert_f32_to_u8_with3(
+    src: &[f32],
+    dst: &mut [u8],
+    entries: ThreeEntryF32U8,
+    rounding: u8,
+    range: u8,
+) -> Answer
+    ensures { λ r. ⌜ TypedContract 8 4 (map f32Bits (now (src .entry))) (map u8Bits (now (dst .entry))) (map f32U8 entries) rounding range r (map u8Bits (now (dst .exit))) ⌝ }
+{
+    convert_f32_to_u8(src, dst, &entries, rounding, range)
+}
+
 // ---- f64 to f32
 
 // Whether an entry's key matches the f64 of the pattern x.
@@ -546,6 +595,19 @@ pub fn convert_f64_to_f32(
     answer_of(s)
 }
 
+// The same with three entries by value, for callers that have no slice of them.
+pub fn convert_f64_to_f32_with3(
+    src: &[f64],
+    dst: &mut [f32],
+    entries: ThreeEntry,
+    rounding: u8,
+    range: u8,
+) -> Answer
+    ensures { λ r. ⌜ TypedContract 9 8 (map f64Bits (now (src .entry))) (map f32Bits (now (dst .entry))) (map f64F32 entries) rounding range r (map f32Bits (now (dst .exit))) ⌝ }
+{
+    convert_f64_to_f32(src, dst, &entries, rounding, range)
+}
+
 // ---- i64 to f32
 
 // Whether an entry's key matches the i64 of the pattern x.
@@ -609,4 +671,17 @@ pub fn convert_i64_to_f32(
         s = step_i64_f32(src, dst, s, f, rounding, range);
     }
     answer_of(s)
+}
+
+// The same with three entries by value, for callers that have no slice of them.
+pub fn convert_i64_to_f32_with3(
+    src: &[i64],
+    dst: &mut [f32],
+    entries: ThreeEntryI64F32,
+    rounding: u8,
+    range: u8,
+) -> Answer
+    ensures { λ r. ⌜ TypedContract 3 8 (map i64Bits (now (src .entry))) (map f32Bits (now (dst .entry))) (map i64F32 entries) rounding range r (map f32Bits (now (dst .exit))) ⌝ }
+{
+    convert_i64_to_f32(src, dst, &entries, rounding, range)
 }

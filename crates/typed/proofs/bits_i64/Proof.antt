@@ -3,9 +3,9 @@
 use mathlib.Core.Path.{refl}
 use lib.Dec.{lit≤}
 use mir.Syntax.{w64}
-use Rattle.typed.proofs.bits_i64.Tie as tie
 use Rattle.typed.proofs.Signed.{Plain, Turned, plain, turned}
 use Rattle.typed.proofs.bits_i64.Statement.{statement}
+use Rattle.typed.proofs.bits_i64.Tie as tie
 
 below : (c : tie.Then1) → Turned w64 refl (lit≤ tt) (c .before .args .z)
 below c = turned w64 refl (lit≤ tt) (c .before .args .z) (c .before .fits .z) (c .if1 .taken)

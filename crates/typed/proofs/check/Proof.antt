@@ -2,8 +2,8 @@
 -- Assumes nothing.
 use mathlib.Core.Path.{_∙_}
 use borrow.Author.Needs.{needs}
-use Rattle.typed.proofs.Parts.{rounding-unlisted, range-unlisted, counts-differ, checks-pass}
 use Rattle.typed.proofs.check.Statement.{statement}
+use Rattle.typed.proofs.Parts.{rounding-unlisted, range-unlisted, counts-differ, checks-pass}
 use Rattle.typed.proofs.check.Tie as tie
 
 stop-requires : tie.Need-stop-requires

@@ -3,9 +3,9 @@
 use Prim.Native.Nat.{_%_, _^_}
 use lib.Ieee.{div, ofBits}
 use borrow.Author.Needs.{needs}
+use Rattle.typed.proofs.f32_of.Tie as tie
 use Rattle.typed.proofs.f32_of.Statement.{statement}
 use Rattle.typed.proofs.Patterns.{nan-pattern, no-nan-pattern}
-use Rattle.typed.proofs.f32_of.Tie as tie
 
 returns : tie.Need-returns
 unfolding div ofBits

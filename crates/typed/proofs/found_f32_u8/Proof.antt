@@ -5,8 +5,8 @@ use Prim.Native.Nat.{_^_, _<_}
 use native.Mathlib.Nat.{mod-eq-of-lt}
 use borrow.Author.Needs.{needs}
 use Rattle.mapping.specs.declared.Lookup.the-variants.{Found}
-use Rattle.typed.proofs.found_f32_u8.Tie as tie
 use Rattle.typed.proofs.found_f32_u8.Statement.{statement}
+use Rattle.typed.proofs.found_f32_u8.Tie as tie
 
 cast-t2 : tie.Need-cast-t2
 cast-t2 c = search needs

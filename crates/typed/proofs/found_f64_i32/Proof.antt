@@ -1,8 +1,8 @@
 -- `typed::found_f64_i32` meets its contract: the target's bits.
 -- Assumes nothing.
 use mathlib.Core.Path.{_≡_, ap, _∙_}
-use mir.Syntax.{w32}
 use mir.Val.{toZ, ofZ}
+use mir.Syntax.{w32}
 use borrow.Author.Needs.{needs}
 use Rattle.mapping.specs.declared.Lookup.the-variants.{Found}
 use Rattle.typed.proofs.found_f64_i32.Statement.{statement}

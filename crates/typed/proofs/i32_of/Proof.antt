@@ -1,8 +1,8 @@
 -- `typed::i32_of` meets its contract: by the highest of the 32 bits.
 -- Assumes nothing.
 use borrow.Author.Needs.{needs}
-use Rattle.typed.proofs.Signed.{upper, lower-fits, lower}
 use Rattle.typed.proofs.i32_of.Statement.{statement}
+use Rattle.typed.proofs.Signed.{upper, lower-fits, lower}
 use Rattle.typed.proofs.i32_of.Tie as tie
 
 cast-result : tie.Need-cast-result

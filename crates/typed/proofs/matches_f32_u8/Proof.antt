@@ -8,8 +8,8 @@ use Rattle.patterns.specs.Kind.{f32}
 use Rattle.patterns.specs.Value.{valueOf}
 use Rattle.cast_spec.specs.Element.{matches}
 use Rattle.typed.proofs.Patterns.{bits-below}
-use Rattle.typed.proofs.matches_f32_u8.Statement.{statement}
 use Rattle.typed.proofs.matches_f32_u8.Tie as tie
+use Rattle.typed.proofs.matches_f32_u8.Statement.{statement}
 
 bits-f32-requires : tie.Need-bits-f32-requires
 bits-f32-requires c κs = search needs

@@ -6,8 +6,8 @@ use borrow.Author.Needs.{needs}
 use Rattle.patterns.specs.Kind.{f64}
 use Rattle.patterns.specs.Value.{valueOf}
 use Rattle.cast_spec.specs.Element.{matches}
-use Rattle.typed.proofs.matches_f64_i32.Tie as tie
 use Rattle.typed.proofs.matches_f64_i32.Statement.{statement}
+use Rattle.typed.proofs.matches_f64_i32.Tie as tie
 
 bits-f64-requires : tie.Need-bits-f64-requires
 bits-f64-requires c κs = search needs

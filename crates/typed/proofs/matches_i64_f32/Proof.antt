@@ -2,14 +2,14 @@
 -- Assumes nothing.
 use mathlib.Core.Path.{_≡_, ap, _∙_}
 use lib.Dec.{eqb, lit<}
-use mir.Syntax.{w64}
 use mir.Val.{toZ, ofZ}
+use mir.Syntax.{w64}
 use borrow.Author.Needs.{needs}
 use Rattle.mapping.proofs.Codes.{coded-integers-match}
-use Rattle.typed.specs.Typed.{i64Bits}
-use Rattle.typed.proofs.matches_i64_f32.Statement.{statement}
 use Rattle.typed.proofs.matches_i64_f32.Tie as tie
+use Rattle.typed.proofs.matches_i64_f32.Statement.{statement}
 use Rattle.typed.proofs.Pairs.{i64-fits}
+use Rattle.typed.specs.Typed.{i64Bits}
 
 bits-i64-requires : tie.Need-bits-i64-requires
 bits-i64-requires c κs = search needs

@@ -3,8 +3,8 @@
 use mathlib.Core.Path.{sym, ap, _∙_}
 use borrow.Author.Needs.{needs}
 use Rattle.mapping.specs.declared.Lookup.{Lookup}
-use Rattle.typed.proofs.outcome.Tie as tie
 use Rattle.typed.specs.Loop.{outcomeFor}
+use Rattle.typed.proofs.outcome.Tie as tie
 use Rattle.typed.proofs.Parts.{unmatched}
 use Rattle.typed.proofs.outcome.Statement.{statement}
 

@@ -3,14 +3,14 @@
 use mathlib.Core.Path.{ap, _∙_}
 use lib.ListN.{getD}
 use lib.IntN.{pos}
-use mir.ValLaws.{toZ-ofZ}
 use mir.Syntax.{w64}
+use mir.ValLaws.{toZ-ofZ}
 use denote.Ref.{now}
 use borrow.Author.Needs.{needs}
-use Rattle.typed.proofs.Parts.{within, past}
 use Rattle.typed.specs.Typed.{i64Bits}
-use Rattle.typed.proofs.state_i64.Statement.{statement}
 use Rattle.typed.proofs.state_i64.Tie as tie
+use Rattle.typed.proofs.Parts.{within, past}
+use Rattle.typed.proofs.state_i64.Statement.{statement}
 
 mul-bits-i64 : tie.Need-mul-bits-i64
 mul-bits-i64 c = search needs

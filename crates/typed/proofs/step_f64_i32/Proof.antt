@@ -2,15 +2,15 @@
 -- Assumes nothing.
 use mathlib.Core.Path.{_≡_, _∙_}
 use mathlib.Core.List.{map}
-use mir.Syntax.{w32}
 use mir.Val.{toZ, ofZ}
+use mir.Syntax.{w32}
 use denote.Ref.{now}
 use borrow.Author.Needs.{needs}
 use Rattle.chunk.proofs.Elements.{refuses}
-use Rattle.typed.specs.Loop.{outcomeFor, i32Of}
-use Rattle.typed.proofs.Parts.{stored, refused}
 use Rattle.typed.specs.Typed.{f64Bits}
 use Rattle.typed.proofs.step_f64_i32.Tie as tie
+use Rattle.typed.proofs.Parts.{stored, refused}
+use Rattle.typed.specs.Loop.{outcomeFor, i32Of}
 use Rattle.typed.proofs.step_f64_i32.Statement.{statement}
 
 outcome-requires : tie.Need-outcome-requires
