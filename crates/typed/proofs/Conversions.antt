@@ -3,9 +3,9 @@
 -- the destination is lent again for a lifetime that is made for the call, and comes back (`Again.antt`). What a turn keeps is `Inv` of `Turns.antt`.
 -- Assumes nothing.
 use mathlib.Core.Bool.{Bool, true, false}
+use mathlib.Core.Path.{_≡_, refl, sym, ap, subst}
 use mathlib.Core.List.{List, [], _∷_, map}
 use mathlib.Core.WellFounded.{WellFounded, InvImage·wf}
-use mathlib.Core.Path.{_≡_, refl, sym, ap, subst}
 use Prim.Native.Nat.{ℕ, _-_, _<_, _^_}
 use lib.WfN.{Nat·lt-wfRel}
 use lib.ListN.{length}
@@ -20,46 +20,46 @@ use ghost.Atoms.{Atoms, sem}
 use contract.Monad.{fact}
 use types.Part.{whole, sub, look-in, agg}
 use types.Kit.{Given, Item, Sq, runs, anyQ, atRet, ‵, raw, _⊛_, some, later, ⋆, _$_, _∵_, !, qed, by, move, keep, drop as leave, use0, use1, use2, use3, split, join, pick, rewrite, fsplit, fjoin, feqL, suffices, frame, await, done}
-use types.Tokens.{lft-new, lft-end}
 use types.Run.{look, store, init, forget, stop, hop, fld, from, load, of-opd, addr, and-then, no-more, assigns, first, blocks, stays, leaves-loop, land, land-last, exec, returns, enter, alloc1, alloc0, params1, pass1, pass0, free1, free0, Below, again, loops}
+use types.Tokens.{lft-new, lft-end}
 use sound.WpLaws.{FmC, fmOf, WpFn-mono}
-use denote.Struct.Laws as LL
-use denote.Triple.Clauses.{Ended, Clauses, closing, ensured, lasts}
-use denote.Signature.{plain}
 use denote.Triple.Walked.{says, Stays, stay-none, stay-slice, stay-none-slice, walkOf, goes-none, goes-slice, goes-none-slice, Walks, ends-at, walked, walk-meets}
-use denote.Plain.{uint-makes, uint-vals, uint-tells}
-use denote.Memory.{lone, pointee}
-use denote.Builtin.{One, u8, u64, usize, SliceRefOf, SliceRefMutOf}
-use denote.Triple.Entry.{Vals, onEntry}
+use denote.Ref.{RefT, now}
 use denote.Laws.{Is, shows}
+use denote.Builtin.{One, u8, u64, usize, SliceRefOf, SliceRefMutOf}
+use denote.Triple.Call.{calls-at, calls-at-last}
+use denote.Memory.{lone, pointee}
 use denote.Struct.Declared.{row}
 use denote.Slice.{sliceTy, sliceVal, ShrSlice, MutSlice, Room, slice-vals, shr-slice-tells, shr-slice-lawful, shr-slice-copy, mut-slice-tells, mut-slice-lawful}
-use denote.Steps.{only, owned, facts, heard, nothing}
-use denote.Ref.{RefT, now}
-use denote.Triple.Statement.{Contract, Triple}
-use denote.Triple.Spec.{Meets, tripleOf}
-use denote.Triple.Call.{calls-at, calls-at-last}
-use denote.Exit.{yes}
-use denote.Enum.Laws as EL
 use denote.RattleType.{RattleType, owns}
+use denote.Steps.{only, owned, facts, heard, nothing}
+use denote.Triple.Clauses.{Ended, Clauses, closing, ensured, lasts}
+use denote.Triple.Spec.{Meets, tripleOf}
+use denote.Enum.Laws as EL
+use denote.Signature.{plain}
+use denote.Exit.{yes}
+use denote.Triple.Entry.{Vals, onEntry}
+use denote.Struct.Laws as LL
+use denote.Plain.{uint-makes, uint-vals, uint-tells}
+use denote.Triple.Statement.{Contract, Triple}
 use Rattle.patterns.specs.Kind.{Kind, bits}
 use Rattle.patterns.specs.Value.{valueOf}
 use Rattle.kinds.specs.declared.Answer.{Answer}
-use Rattle.kinds.proofs.Answer.Laws as R′
-use Rattle.kinds.proofs.Answer as R
 use Rattle.kinds.specs.Codes.{kindOf}
-use Rattle.mapping.specs.Map.{lookupOf}
-use Rattle.mapping.specs.declared.Lookup.{Lookup}
-use Rattle.mapping.proofs.Lookup as F
+use Rattle.kinds.proofs.Answer as R
+use Rattle.kinds.proofs.Answer.Laws as R′
 use Rattle.mapping.proofs.Lookup.Laws as F′
-use Rattle.typed.proofs.Turns.{Elements, Inv, left, starts, asks, turns}
-use Rattle.typed.specs.Typed.{TypedContract}
-use Rattle.typed.specs.declared.State.{State}
-use Rattle.typed.proofs.State as S
-use Rattle.typed.specs.Loop.{startOf, outcomeFor, nextState, storedIn}
-use Rattle.typed.proofs.Again.{LentAgain, lends-again, comes-back}
+use Rattle.mapping.specs.Map.{lookupOf}
+use Rattle.mapping.proofs.Lookup as F
+use Rattle.mapping.specs.declared.Lookup.{Lookup}
 use Rattle.typed.proofs.State.Laws as S′
+use Rattle.typed.proofs.State as S
+use Rattle.typed.specs.declared.State.{State}
+use Rattle.typed.specs.Typed.{TypedContract}
 use Rattle.typed.proofs.Lookups.{EntryType}
+use Rattle.typed.proofs.Again.{LentAgain, lends-again, comes-back}
+use Rattle.typed.proofs.Turns.{Elements, Inv, left, starts, asks, turns}
+use Rattle.typed.specs.Loop.{startOf, outcomeFor, nextState, storedIn}
 
 -- ---- a pair of kinds: the types of its elements and of its entries, with their patterns
 pub record Pair : Type 2 where

@@ -3,18 +3,18 @@
 use lib.IntN.{pos}
 use lib.Ieee.{nan}
 use Rattle.kinds.specs.Codes.{kindOf}
-use Rattle.typed.proofs.EntryF32U8 as EntryF32U8
-use Rattle.typed.proofs.EntryF64U8.Laws as EntryF64U8′
-use Rattle.typed.proofs.EntryF64I32.Laws as EntryF64I32′
-use Rattle.typed.proofs.Entry as Entry
-use Rattle.typed.proofs.EntryI64F32.Laws as EntryI64F32′
-use Rattle.typed.proofs.EntryF32U8.Laws as EntryF32U8′
-use Rattle.typed.proofs.Entry.Laws as Entry′
-use Rattle.typed.proofs.EntryF64I32 as EntryF64I32
 use Rattle.typed.proofs.EntryI64F32 as EntryI64F32
+use Rattle.typed.proofs.EntryI64F32.Laws as EntryI64F32′
+use Rattle.typed.proofs.EntryF64U8.Laws as EntryF64U8′
+use Rattle.typed.proofs.EntryF64U8 as EntryF64U8
+use Rattle.typed.proofs.Entry.Laws as Entry′
+use Rattle.typed.proofs.EntryF32U8 as EntryF32U8
+use Rattle.typed.proofs.Entry as Entry
+use Rattle.typed.proofs.EntryF64I32 as EntryF64I32
 use Rattle.typed.proofs.Lookups.{EntryType}
 use Rattle.typed.specs.Typed.{f64U8, f64I32, f32U8, f64F32, i64F32}
-use Rattle.typed.proofs.EntryF64U8 as EntryF64U8
+use Rattle.typed.proofs.EntryF32U8.Laws as EntryF32U8′
+use Rattle.typed.proofs.EntryF64I32.Laws as EntryF64I32′
 
 abbrev pub f64-to-u8 : EntryType
 f64-to-u8 = record {

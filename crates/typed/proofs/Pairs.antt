@@ -1,32 +1,32 @@
 -- The five pairs of kinds, each by its types and its patterns.
 -- Assumes nothing.
-use mathlib.Core.List.{List, [], _∷_, map}
-use mathlib.Core.Path.{_≡_, refl, ap, subst, sym, _∙_}
 use mathlib.Core.Bool.{true}
+use mathlib.Core.Path.{_≡_, refl, ap, subst, sym, _∙_}
+use mathlib.Core.List.{List, [], _∷_, map}
 use Prim.Native.Nat.{ℕ, _%_, _^_, _<_}
 use native.Mathlib.Nat.{mod-lt, mod-mod}
-use lib.Dec.{lit<}
 use lib.Ieee.{Float, binary32, binary64}
 use lib.IntN.{ℤ}
+use lib.Dec.{lit<}
 use denote.Builtin as B
 use Rattle.bytes_le.specs.Bytes.{toLe}
+use Rattle.patterns.proofs.AnyKind.{unit-pos}
 use Rattle.patterns.specs.Pattern.{nanPattern}
 use Rattle.patterns.proofs.Integers.{low-bits-lt}
 use Rattle.patterns.specs.Kind.{f64}
-use Rattle.patterns.proofs.AnyKind.{unit-pos}
 use Rattle.kinds.specs.declared.Outcome.the-variants.{Stored}
 use Rattle.cast_spec.specs.Element.{outcomeOf}
-use Rattle.typed.proofs.Conversions.{Pair}
-use Rattle.typed.proofs.Places.{low-bytes}
-use Rattle.typed.specs.declared.EntryI64F32.{EntryI64F32}
-use Rattle.typed.proofs.Stored.{Back, quiet, quiet-kept, no-integer-nan, bits-are-back, read-back, stored-back}
-use Rattle.typed.specs.declared.Entry.{Entry}
-use Rattle.typed.proofs.EntryTypes as entries
-use Rattle.typed.specs.Loop.{u8Of, i32Of, f32Of}
 use Rattle.typed.proofs.Signed.{again}
 use Rattle.typed.specs.Typed.{f64Bits, f32Bits, i64Bits, u8Bits, i32Bits, f64U8, f64I32, f32U8, f64F32, i64F32}
-use Rattle.typed.proofs.Patterns.{bits-below}
+use Rattle.typed.proofs.Stored.{Back, quiet, quiet-kept, no-integer-nan, bits-are-back, read-back, stored-back}
 use Rattle.typed.proofs.Turns.{settings}
+use Rattle.typed.specs.declared.EntryI64F32.{EntryI64F32}
+use Rattle.typed.proofs.Patterns.{bits-below}
+use Rattle.typed.specs.declared.Entry.{Entry}
+use Rattle.typed.proofs.EntryTypes as entries
+use Rattle.typed.proofs.Conversions.{Pair}
+use Rattle.typed.proofs.Places.{low-bytes}
+use Rattle.typed.specs.Loop.{u8Of, i32Of, f32Of}
 
 -- ---- patterns fit
 pub f64-fits : (x : Float) → f64Bits x < 2 ^ 64

@@ -1,25 +1,25 @@
 -- What the covered parts of a typed entry come to: the checks, the state at a position, and one element.
 -- Assumes nothing.
-use mathlib.Core.List.{List, [], _∷_, map}
 use mathlib.Core.Bool.{Bool, true, false, cond}
 use mathlib.Core.Path.{_≡_, refl, sym, ap, ap₂, subst, _∙_}
+use mathlib.Core.List.{List, [], _∷_, map}
 use Prim.Native.Nat.{ℕ, zero, suc, _+_, _≤_, _<_}
 use native.Mathlib.Nat.{not-suc-le-zero, le-of-suc-le-suc}
 use lib.ListN.{length, getD, set, length-map}
 use borrow.Author.Tests.{lt-ltb, le-ltb, eq-eqb, ne-eqb}
 use Rattle.grid.specs.declared.RoundingMode.{RoundingMode}
+use Rattle.kinds.specs.declared.OutOfRangeMode.{OutOfRangeMode}
+use Rattle.kinds.specs.declared.Outcome.{Outcome}
 use Rattle.kinds.specs.declared.Outcome.the-variants.{Stored, NanOrInf, OutOfRange, FloatOutOfRange}
 use Rattle.kinds.specs.Codes.{kindOf, roundingOf, rangeOf}
 use Rattle.kinds.specs.declared.Answer.the-variants as A
-use Rattle.kinds.specs.declared.OutOfRangeMode.{OutOfRangeMode}
-use Rattle.kinds.specs.declared.Outcome.{Outcome}
 use Rattle.mapping.specs.declared.Lookup.the-variants.{Missing}
 use Rattle.mapping.specs.declared.Lookup.{Lookup}
 use Rattle.element.specs.Convert.{unmapped}
-use Rattle.cast_spec.specs.Chunk.{answerNext}
 use Rattle.cast_spec.specs.Demand3.{Refuses}
-use Rattle.typed.specs.Loop.{going, stopped, stateAt, checkOf, startOf, outcomeFor, nextState, storedIn}
+use Rattle.cast_spec.specs.Chunk.{answerNext}
 use Rattle.typed.specs.declared.State.{State}
+use Rattle.typed.specs.Loop.{going, stopped, stateAt, checkOf, startOf, outcomeFor, nextState, storedIn}
 
 -- ---- the checks
 module _ (n m rounding range : ℕ) where

@@ -6,8 +6,8 @@ use mathlib.Core.Path.{_≡_, refl, sym, ap, subst, _∙_}
 use Prim.Native.Nat.{ℕ, _*_, _%_, _≤_, _<_}
 use lib.Ieee.Compare.{differs-from-itself}
 use lib.Ieee.Bits.{ofBits-toBits, toBits-lt, toBits-ofBits, nanBits-is, nanBits-above}
-use lib.Ieee.{Float, Format, binary32, binary64, nan, inf, fin, fits, isNan, ne, top, ofBits, nanBits, toBits}
 use lib.Dec.{T, lit<}
+use lib.Ieee.{Float, Format, binary32, binary64, nan, inf, fin, fits, isNan, ne, top, ofBits, nanBits, toBits}
 use borrow.Author.Tests.{lt-ltb, le-ltb}
 use Rattle.typed.specs.Typed.{floatBits}
 

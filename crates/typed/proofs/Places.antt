@@ -1,13 +1,13 @@
 -- Patterns as bytes, `bytesOf`: the pattern at a place is the one that was written there, and another at its place changes no other byte.
 -- Assumes nothing.
-use mathlib.Core.Path.{_≡_, refl, sym, ap, ap₂, subst, _∙_}
 use mathlib.Core.List.{List, [], _∷_, _++_, append-assoc, map}
+use mathlib.Core.Path.{_≡_, refl, sym, ap, ap₂, subst, _∙_}
 use Prim.Native.Nat.{ℕ, zero, suc, _+_, _*_, _/_, _%_, _^_, _≤_, _<_}
 use native.Mathlib.Omega.{arith}
 use native.Mathlib.Nat.{mod-lt, one-le-pow, pow-suc, zero-lt-suc, not-suc-le-zero, le-of-suc-le-suc, zero-mul, mod-eq-of-lt}
+use lib.ListN.{length, getD, take, drop, set, length-append, length-map, drop-of-length-le}
 use lib.Arith.{mod-mul, digits-div, digits-mod}
 use lib.Seq.{take-append-add, drop-append-add, drop-at, drop-cons}
-use lib.ListN.{length, getD, take, drop, set, length-append, length-map, drop-of-length-le}
 use Rattle.bytes_le.specs.Bytes.{toLe, patternAt}
 use Rattle.bytes_le.proofs.Sums.{length-toLe}
 use Rattle.bytes_le.proofs.Places.{first-place, next-place}

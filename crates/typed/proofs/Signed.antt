@@ -5,12 +5,12 @@ use mathlib.Core.Path.{_≡_, refl, sym, ap, _∙_, subst}
 use Prim.Native.Nat.{ℕ, zero, suc, _+_, _-_, _%_, _^_, _≤_, _<_}
 use native.Mathlib.Omega.{arith}
 use native.Mathlib.Nat.{mod-eq-of-lt, mod-lt, zero-add}
-use lib.Signed.{ltZ, nonNeg}
-use lib.IntN.{ℤ, pos, negsuc, _-ℤ_, natAbs}
 use lib.Dec.{T, ltb, lit<}
+use lib.IntN.{ℤ, pos, negsuc, _-ℤ_, natAbs}
+use lib.Signed.{ltZ, nonNeg}
 use mir.Val.{Fits, SFits, toZ, ofZ, bits, hbits}
-use mir.ValLaws.{toZ-ofZ}
 use mir.Syntax.{Width, w32, w64}
+use mir.ValLaws.{toZ-ofZ}
 use borrow.Author.Tests.{ltb-true, lt-ltb, le-ltb}
 use Rattle.patterns.specs.Pattern.{lowBits}
 use Rattle.typed.specs.Loop.{i32Of}

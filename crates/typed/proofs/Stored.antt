@@ -1,35 +1,35 @@
 -- A pattern that a conversion to f32 stores is no NaN's but the quiet one, where the elements' and the targets' patterns are so: it is the one that the f32 read from it has.
 -- Assumes nothing.
-use mathlib.Core.List.{List, [], _∷_, map}
 use mathlib.Core.Bool.{Bool, true, false, not, cond, _&&_}
 use mathlib.Core.Path.{_≡_, refl, sym, ap, subst, _∙_}
+use mathlib.Core.List.{List, [], _∷_, map}
 use Prim.Native.Nat.{ℕ, _%_, _^_, _<_}
-use native.Mathlib.Nat.{mod-eq-of-lt}
 use native.Mathlib.Omega.{arith}
+use native.Mathlib.Nat.{mod-eq-of-lt}
 use lib.Ieee.Bits.{ofBits-fits, toBits-ofBits}
 use lib.IntN.{ℤ, pos, natAbs}
 use lib.Signed.{_≤ℤ_, leZ, leZ-yes}
 use lib.Ieee as F
 use lib.Ieee.{Float, Format, binary32, binary64, fits, isNan, ofBits, toBits}
 use lib.Dec.{T, lit<, lit≤}
+use Rattle.grid.specs.Round.{pick, signed}
 use Rattle.grid.specs.Grid.{OnGrid}
 use Rattle.grid.proofs.Picked.{picked}
-use Rattle.grid.specs.Round.{pick, signed}
 use Rattle.bytes_le.specs.Bytes.{toLe}
-use Rattle.patterns.specs.Pattern.{patternOf, infinity, nanPattern, asF64}
-use Rattle.patterns.proofs.AnyKind.{sound, sign-of, pick-sign, pattern-back, pattern-fits}
+use Rattle.patterns.proofs.Ieee.{Agrees, kindFor, agree}
 use Rattle.patterns.specs.Kind.{Kind, integer, f32, f64, gridOf, lowest, highest, InRange, WellFormed}
+use Rattle.patterns.specs.Pattern.{patternOf, infinity, nanPattern, asF64}
 use Rattle.patterns.proofs.Floats.{inf-back, inf-fits}
 use Rattle.patterns.specs.Value.{Value, nan, inf, num, negative, valueOf}
-use Rattle.patterns.proofs.Ieee.{Agrees, kindFor, agree}
-use Rattle.kinds.specs.declared.Outcome.the-variants.{Stored, NanOrInf, OutOfRange, FloatOutOfRange}
+use Rattle.patterns.proofs.AnyKind.{sound, sign-of, pick-sign, pattern-back, pattern-fits}
+use Rattle.kinds.specs.declared.OutOfRangeMode.{OutOfRangeMode}
 use Rattle.kinds.specs.declared.OutOfRangeMode.the-variants.{None, Clamp, Wrap}
 use Rattle.kinds.specs.declared.Outcome.{Outcome}
-use Rattle.kinds.specs.declared.OutOfRangeMode.{OutOfRangeMode}
+use Rattle.kinds.specs.declared.Outcome.the-variants.{Stored, NanOrInf, OutOfRange, FloatOutOfRange}
 use Rattle.cast_spec.specs.Element.{Entry, Settings, matches, mapped, ranged, beyond, converted, outcomeOf}
+use Rattle.typed.specs.Typed.{floatBits, f32Bits}
 use Rattle.typed.specs.Loop.{f32Of}
 use Rattle.typed.proofs.Patterns.{bits-below, bits-back}
-use Rattle.typed.specs.Typed.{floatBits, f32Bits}
 
 -- ---- a pattern's value and the language's float are a NaN alike
 nan-agrees : (x : Float) (v : Value) → Agrees x v → v ≡ nan → x ≡ F.nan

@@ -4,35 +4,35 @@ use mathlib.Core.List.{List, [], _++_, map}
 use mathlib.Core.Bool.{Bool, true, false, cond, _&&_, true≢false}
 use mathlib.Core.Path.{_≡_, refl, sym, ap, ap₂, subst, _∙_}
 use Prim.Native.Nat.{ℕ, suc, _+_, _-_, _*_, _/_, _%_, _^_, _≤_, _<_}
-use native.Mathlib.Numerals.{add-one}
-use native.Mathlib.Nat.{mul-div-cancel, mul-mod-left, le-of-eq, le-trans, mul-le-mul-right, sub-zero, zero-mul}
 use native.Mathlib.Omega.{arith}
-use lib.Dec.{T, ltb, eqb}
+use native.Mathlib.Nat.{mul-div-cancel, mul-mod-left, le-of-eq, le-trans, mul-le-mul-right, sub-zero, zero-mul}
+use native.Mathlib.Numerals.{add-one}
 use lib.ListN.{length, getD, take, drop, set, length-set, length-map}
+use lib.Dec.{T, ltb, eqb}
 use borrow.Author.Tests.{lt-ltb, eq-eqb, ltb-true, ltb-false, eqb-true, eqb-false}
 use Rattle.grid.specs.declared.RoundingMode.{RoundingMode}
 use Rattle.bytes_le.specs.Bytes.{toLe}
 use Rattle.patterns.specs.Kind.{Kind, integer, binary, bits}
 use Rattle.patterns.specs.Value.{Value, nan, inf, num, valueOf}
-use Rattle.kinds.specs.declared.Outcome.the-variants.{Stored, NanOrInf, OutOfRange, FloatOutOfRange}
+use Rattle.kinds.specs.declared.OutOfRangeMode.{OutOfRangeMode}
 use Rattle.kinds.specs.declared.Answer.{Answer}
+use Rattle.kinds.specs.declared.Outcome.{Outcome}
+use Rattle.kinds.specs.declared.Outcome.the-variants.{Stored, NanOrInf, OutOfRange, FloatOutOfRange}
 use Rattle.kinds.specs.Codes.{kindOf, roundingOf, rangeOf}
 use Rattle.kinds.specs.declared.Answer.the-variants as A
-use Rattle.kinds.specs.declared.OutOfRangeMode.{OutOfRangeMode}
-use Rattle.kinds.specs.declared.Outcome.{Outcome}
-use Rattle.mapping.specs.declared.Lookup.{Lookup}
-use Rattle.mapping.specs.Map.{lookupOf, foundOr}
 use Rattle.mapping.proofs.Entries.{mapped-by-lookup}
-use Rattle.cast_spec.proofs.Demand3.{contract, kind-fits, answer-is, destination-is}
-use Rattle.cast_spec.specs.Chunk.{Inputs, width, settingsOf, codesListed, mapWhole, bytesWhole, callOf, outcomeAt, answerNext, answerFrom, answerOf, bytesFrom, destinationOf, entriesFrom}
-use Rattle.cast_spec.specs.Element.{Entry, Settings, converted, outcomeOf}
+use Rattle.mapping.specs.Map.{lookupOf, foundOr}
+use Rattle.mapping.specs.declared.Lookup.{Lookup}
 use Rattle.cast_spec.specs.Demand3.{Contract, Refuses}
+use Rattle.cast_spec.proofs.Demand3.{contract, kind-fits, answer-is, destination-is}
+use Rattle.cast_spec.specs.Element.{Entry, Settings, converted, outcomeOf}
+use Rattle.cast_spec.specs.Chunk.{Inputs, width, settingsOf, codesListed, mapWhole, bytesWhole, callOf, outcomeAt, answerNext, answerFrom, answerOf, bytesFrom, destinationOf, entriesFrom}
 use Rattle.chunk.proofs.Runs.{Run, done, refused, kept}
 use Rattle.chunk.proofs.Exits.{width-pos, unknown, mismatch}
-use Rattle.typed.specs.declared.State.{State}
-use Rattle.typed.specs.Typed.{bytesOf, typedInputs}
-use Rattle.typed.proofs.Places.{map-set, mapped-below, entry-below, some-element, length-bytes, pattern-at, set-bytes, entries-back}
 use Rattle.typed.specs.Loop.{going, stopped, stateAt, startOf, outcomeFor, nextState, storedIn}
+use Rattle.typed.specs.Typed.{bytesOf, typedInputs}
+use Rattle.typed.specs.declared.State.{State}
+use Rattle.typed.proofs.Places.{map-set, mapped-below, entry-below, some-element, length-bytes, pattern-at, set-bytes, entries-back}
 
 -- ---- a conversion does not look at the entries
 no-map : (from to : Kind) (rule : RoundingMode) (choice : OutOfRangeMode) (es : List Entry) (b : ℕ) (k : Kind) (v : Value)

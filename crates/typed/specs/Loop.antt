@@ -37,6 +37,13 @@ checkOf n m rounding range = cond (ltb rounding 5 && ltb range 3) (cond (eqb n m
 abbrev pub startOf : List ℕ → ℕ → ℕ → ℕ → State
 startOf ps m rounding range = let s = checkOf (length ps) m rounding range in cond (s .more) (stateAt ps 0) s
 
+-- ---- the destination after an outcome at the position i, where `of` reads a pattern as a value of the target
+abbrev pub storedIn : {D : Type 0} → (ℕ → D) → Outcome → List D → ℕ → List D
+storedIn of (Stored b) ds i = set ds i (of b)
+storedIn of (NanOrInf v) ds i = ds
+storedIn of (OutOfRange v lo hi) ds i = ds
+storedIn of (FloatOutOfRange v lo hi) ds i = ds
+
 -- ---- one element of the pattern x, for which the map gives f
 abbrev pub outcomeFor : ℕ → ℕ → ℕ → Lookup → ℕ → ℕ → Outcome
 outcomeFor from to x f rounding range = foundOr f (unmapped (kindOf from) (kindOf to) (roundingOf rounding) (rangeOf range) x)
@@ -46,13 +53,6 @@ nextState (Stored b) ps i = stateAt ps (i + 1)
 nextState (NanOrInf v) ps i = stopped i (answerNext (NanOrInf v) i A.Converted)
 nextState (OutOfRange v lo hi) ps i = stopped i (answerNext (OutOfRange v lo hi) i A.Converted)
 nextState (FloatOutOfRange v lo hi) ps i = stopped i (answerNext (FloatOutOfRange v lo hi) i A.Converted)
-
--- the destination after it, where `of` reads a pattern as a value of the target
-abbrev pub storedIn : {D : Type 0} → (ℕ → D) → Outcome → List D → ℕ → List D
-storedIn of (Stored b) ds i = set ds i (of b)
-storedIn of (NanOrInf v) ds i = ds
-storedIn of (OutOfRange v lo hi) ds i = ds
-storedIn of (FloatOutOfRange v lo hi) ds i = ds
 
 -- ---- the value of the target that a pattern's lowest bits are
 abbrev pub u8Of : ℕ → ℕ

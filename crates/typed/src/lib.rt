@@ -110,6 +110,13 @@ fn bits_i32(z: i32) -> u64
     z as u64
 }
 
+// The eight bits of a u8.
+fn bits_u8(x: u8) -> u64
+    ensures { λ r. ⌜ r ≡ u8Bits x ⌝ }
+{
+    x as u64
+}
+
 // The u8 of a pattern's lowest eight bits.
 fn u8_of(b: u64) -> u8
     ensures { λ r. ⌜ r ≡ u8Of b ⌝ }
@@ -215,6 +222,14 @@ fn answer_of(s: State) -> Answer
 
 // ---- sources
 
+// Whether an entry's key matches the f64 of the pattern x.
+fn key_matches_f64(key: f64, x: u64) -> bool
+    requires { ⌜ x < 2 ^ 64 ⌝ }
+    ensures { λ r. ⌜ r ≡ matches (valueOf (kindOf 9) x) (valueOf (kindOf 9) (f64Bits key)) ⌝ }
+{
+    mapping::matches_f64(x, bits_f64(key))
+}
+
 // The state at a position of f64 elements.
 fn state_f64(src: &[f64], at: usize) -> State
     ensures { λ r. ⌜ r ≡ stateAt (map f64Bits (now (src .entry))) at ⌝ }
@@ -242,6 +257,14 @@ fn start_f64(src: &[f64], room: usize, rounding: u8, range: u8) -> State
     s
 }
 
+// Whether an entry's key matches the f32 of the pattern x.
+fn key_matches_f32(key: f32, x: u64) -> bool
+    requires { ⌜ x < 2 ^ 32 ⌝ }
+    ensures { λ r. ⌜ r ≡ matches (valueOf (kindOf 8) x) (valueOf (kindOf 8) (f32Bits key)) ⌝ }
+{
+    mapping::matches_f32(x, bits_f32(key))
+}
+
 // The state at a position of f32 elements.
 fn state_f32(src: &[f32], at: usize) -> State
     ensures { λ r. ⌜ r ≡ stateAt (map f32Bits (now (src .entry))) at ⌝ }
@@ -267,6 +290,14 @@ fn start_f32(src: &[f32], room: usize, rounding: u8, range: u8) -> State
         return state_f32(src, 0);
     }
     s
+}
+
+// Whether an entry's key matches the i64 of the pattern x.
+fn key_matches_i64(key: i64, x: u64) -> bool
+    requires { ⌜ x < 2 ^ 64 ⌝ }
+    ensures { λ r. ⌜ r ≡ matches (valueOf (kindOf 3) x) (valueOf (kindOf 3) (i64Bits key)) ⌝ }
+{
+    x == bits_i64(key)
 }
 
 // The state at a position of i64 elements.
@@ -298,19 +329,19 @@ fn start_i64(src: &[i64], room: usize, rounding: u8, range: u8) -> State
 
 // ---- f64 to u8
 
-// Whether an entry's key matches the f64 of the pattern x.
+// Whether an entry matches the f64 of the pattern x.
 fn matches_f64_u8(e: EntryF64U8, x: u64) -> bool
     requires { ⌜ x < 2 ^ 64 ⌝ }
     ensures { λ r. ⌜ r ≡ matches (valueOf (kindOf 9) x) (valueOf (kindOf 9) (f64U8 e .key)) ⌝ }
 {
-    mapping::matches_f64(x, bits_f64(e.key))
+    key_matches_f64(e.key, x)
 }
 
 // An entry's target.
 fn found_f64_u8(e: EntryF64U8) -> Lookup
     ensures { λ r. ⌜ r ≡ Lookup.Found (f64U8 e .target) ⌝ }
 {
-    Lookup::Found(e.target as u64)
+    Lookup::Found(bits_u8(e.target))
 }
 
 // The target of the first entry that matches.
@@ -376,12 +407,12 @@ pub fn convert_f64_to_u8_with3(
 
 // ---- f64 to i32
 
-// Whether an entry's key matches the f64 of the pattern x.
+// Whether an entry matches the f64 of the pattern x.
 fn matches_f64_i32(e: EntryF64I32, x: u64) -> bool
     requires { ⌜ x < 2 ^ 64 ⌝ }
     ensures { λ r. ⌜ r ≡ matches (valueOf (kindOf 9) x) (valueOf (kindOf 9) (f64I32 e .key)) ⌝ }
 {
-    mapping::matches_f64(x, bits_f64(e.key))
+    key_matches_f64(e.key, x)
 }
 
 // An entry's target.
@@ -454,19 +485,19 @@ pub fn convert_f64_to_i32_with3(
 
 // ---- f32 to u8
 
-// Whether an entry's key matches the f32 of the pattern x.
+// Whether an entry matches the f32 of the pattern x.
 fn matches_f32_u8(e: EntryF32U8, x: u64) -> bool
     requires { ⌜ x < 2 ^ 32 ⌝ }
     ensures { λ r. ⌜ r ≡ matches (valueOf (kindOf 8) x) (valueOf (kindOf 8) (f32U8 e .key)) ⌝ }
 {
-    mapping::matches_f32(x, bits_f32(e.key))
+    key_matches_f32(e.key, x)
 }
 
 // An entry's target.
 fn found_f32_u8(e: EntryF32U8) -> Lookup
     ensures { λ r. ⌜ r ≡ Lookup.Found (f32U8 e .target) ⌝ }
 {
-    Lookup::Found(e.target as u64)
+    Lookup::Found(bits_u8(e.target))
 }
 
 // The target of the first entry that matches.
@@ -532,12 +563,12 @@ pub fn convert_f32_to_u8_with3(
 
 // ---- f64 to f32
 
-// Whether an entry's key matches the f64 of the pattern x.
+// Whether an entry matches the f64 of the pattern x.
 fn matches_f64_f32(e: Entry, x: u64) -> bool
     requires { ⌜ x < 2 ^ 64 ⌝ }
     ensures { λ r. ⌜ r ≡ matches (valueOf (kindOf 9) x) (valueOf (kindOf 9) (f64F32 e .key)) ⌝ }
 {
-    mapping::matches_f64(x, bits_f64(e.key))
+    key_matches_f64(e.key, x)
 }
 
 // An entry's target.
@@ -610,12 +641,12 @@ pub fn convert_f64_to_f32_with3(
 
 // ---- i64 to f32
 
-// Whether an entry's key matches the i64 of the pattern x.
+// Whether an entry matches the i64 of the pattern x.
 fn matches_i64_f32(e: EntryI64F32, x: u64) -> bool
     requires { ⌜ x < 2 ^ 64 ⌝ }
     ensures { λ r. ⌜ r ≡ matches (valueOf (kindOf 3) x) (valueOf (kindOf 3) (i64F32 e .key)) ⌝ }
 {
-    x == bits_i64(e.key)
+    key_matches_i64(e.key, x)
 }
 
 // An entry's target.

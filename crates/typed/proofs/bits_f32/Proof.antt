@@ -3,11 +3,11 @@
 use mathlib.Core.Path.{sym, subst}
 use Prim.Native.Nat.{ℕ, _^_, _<_}
 use native.Mathlib.Omega.{arith}
+use lib.Ieee.Bits.{toBits-lt}
 use lib.Ieee.{binary32, fits, toBits}
 use lib.Dec.{T}
-use lib.Ieee.Bits.{toBits-lt}
-use Rattle.typed.proofs.bits_f32.Statement.{statement}
 use Rattle.typed.proofs.bits_f32.Tie as tie
+use Rattle.typed.proofs.bits_f32.Statement.{statement}
 use Rattle.typed.proofs.Patterns.{no-nan, nan-bits, held-bits}
 
 wider : {n : ℕ} → n < 2 ^ 32 → n < 2 ^ 64

@@ -2,8 +2,8 @@
 -- Assumes nothing.
 use lib.Ieee.{binary64, fits, toBits}
 use Rattle.typed.proofs.bits_f64.Tie as tie
-use Rattle.typed.proofs.bits_f64.Statement.{statement}
 use Rattle.typed.proofs.Patterns.{no-nan, nan-bits, held-bits}
+use Rattle.typed.proofs.bits_f64.Statement.{statement}
 
 returns : tie.Need-returns
 unfolding toBits fits

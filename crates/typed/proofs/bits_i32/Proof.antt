@@ -4,8 +4,8 @@ use mathlib.Core.Path.{refl}
 use lib.Dec.{lit≤}
 use mir.Syntax.{w32}
 use Rattle.typed.proofs.Signed.{Plain, Turned, plain, turned}
-use Rattle.typed.proofs.bits_i32.Tie as tie
 use Rattle.typed.proofs.bits_i32.Statement.{statement}
+use Rattle.typed.proofs.bits_i32.Tie as tie
 
 below : (c : tie.Then1) → Turned w32 refl (lit≤ tt) (c .before .args .z)
 below c = turned w32 refl (lit≤ tt) (c .before .args .z) (c .before .fits .z) (c .if1 .taken)

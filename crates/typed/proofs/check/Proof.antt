@@ -3,8 +3,8 @@
 use mathlib.Core.Path.{_∙_}
 use borrow.Author.Needs.{needs}
 use Rattle.typed.proofs.check.Statement.{statement}
-use Rattle.typed.proofs.Parts.{rounding-unlisted, range-unlisted, counts-differ, checks-pass}
 use Rattle.typed.proofs.check.Tie as tie
+use Rattle.typed.proofs.Parts.{rounding-unlisted, range-unlisted, counts-differ, checks-pass}
 
 stop-requires : tie.Need-stop-requires
 stop-requires c κs = search needs

@@ -3,20 +3,20 @@
 use contract.Running.{givenOf, tables, tablesOf}
 use denote.Triple.Spec.{tripleOf}
 use denote.Triple.Table.{entered, cited}
-use Rattle.typed.proofs.start_f64.Met as start-thm
-use Rattle.typed.proofs.step_f64_i32.Met as step-thm
-use Rattle.typed.proofs.convert_f64_to_i32.Statement as stated
-use Rattle.typed.proofs.convert_f64_to_i32 as convert
-use Rattle.typed.proofs.answer_of.Symbol as answer
-use Rattle.typed.proofs.convert_f64_to_i32.Key.{name}
-use Rattle.typed.proofs.Pairs.{f64-to-i32}
-use Rattle.typed.proofs.start_f64.Symbol as start
-use Rattle.typed.proofs.answer_of.Met as answer-thm
-use Rattle.typed.proofs.lookup_f64_i32.Symbol as lookup
 use Rattle.typed.proofs.step_f64_i32.Symbol as step
+use Rattle.typed.proofs.lookup_f64_i32.Symbol as lookup
+use Rattle.typed.proofs.Conversions.{Start, LookUp, Step, AnswerOf, meets}
+use Rattle.typed.proofs.Pairs.{f64-to-i32}
+use Rattle.typed.proofs.answer_of.Met as answer-thm
+use Rattle.typed.proofs.start_f64.Symbol as start
+use Rattle.typed.proofs.step_f64_i32.Met as step-thm
+use Rattle.typed.proofs.convert_f64_to_i32.Key.{name}
 use Rattle.typed.proofs.lookup_f64_i32.Met as lookup-thm
 use Rattle.typed.proofs.convert_f64_to_i32.Code as code
-use Rattle.typed.proofs.Conversions.{Start, LookUp, Step, AnswerOf, meets}
+use Rattle.typed.proofs.answer_of.Symbol as answer
+use Rattle.typed.proofs.convert_f64_to_i32.Statement as stated
+use Rattle.typed.proofs.convert_f64_to_i32 as convert
+use Rattle.typed.proofs.start_f64.Met as start-thm
 
 pub convert-f64-to-i32-spec : {M : Type 1} → stated.statement M
 unfolding code.routine tablesOf

@@ -3,14 +3,14 @@
 use contract.Running.{givenOf, tables, tablesOf}
 use denote.Triple.Spec.{tripleOf}
 use denote.Triple.Table.{entered, cited}
+use Rattle.typed.proofs.Threes.{Convert, meets}
+use Rattle.typed.proofs.convert_f64_to_i32_with3 as with3
+use Rattle.typed.proofs.Pairs.{f64-to-i32}
 use Rattle.typed.proofs.convert_f64_to_i32.Met as convert-thm
 use Rattle.typed.proofs.convert_f64_to_i32_with3.Statement as stated
-use Rattle.typed.proofs.Pairs.{f64-to-i32}
 use Rattle.typed.proofs.convert_f64_to_i32.Symbol as convert
-use Rattle.typed.proofs.convert_f64_to_i32_with3 as with3
-use Rattle.typed.proofs.Threes.{Convert, meets}
-use Rattle.typed.proofs.convert_f64_to_i32_with3.Key.{name}
 use Rattle.typed.proofs.convert_f64_to_i32_with3.Code as code
+use Rattle.typed.proofs.convert_f64_to_i32_with3.Key.{name}
 
 pub convert-f64-to-i32-with3-spec : {M : Type 1} → stated.statement M
 unfolding code.routine tablesOf

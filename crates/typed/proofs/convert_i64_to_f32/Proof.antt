@@ -3,20 +3,20 @@
 use contract.Running.{givenOf, tables, tablesOf}
 use denote.Triple.Spec.{tripleOf}
 use denote.Triple.Table.{entered, cited}
-use Rattle.typed.proofs.start_i64.Met as start-thm
-use Rattle.typed.proofs.convert_i64_to_f32.Statement as stated
-use Rattle.typed.proofs.convert_i64_to_f32.Key.{name}
-use Rattle.typed.proofs.lookup_i64_f32.Symbol as lookup
-use Rattle.typed.proofs.lookup_i64_f32.Met as lookup-thm
+use Rattle.typed.proofs.step_i64_f32.Met as step-thm
+use Rattle.typed.proofs.convert_i64_to_f32 as convert
 use Rattle.typed.proofs.answer_of.Symbol as answer
 use Rattle.typed.proofs.convert_i64_to_f32.Code as code
-use Rattle.typed.proofs.step_i64_f32.Met as step-thm
-use Rattle.typed.proofs.start_i64.Symbol as start
-use Rattle.typed.proofs.answer_of.Met as answer-thm
 use Rattle.typed.proofs.step_i64_f32.Symbol as step
-use Rattle.typed.proofs.convert_i64_to_f32 as convert
 use Rattle.typed.proofs.Pairs.{i64-to-f32}
 use Rattle.typed.proofs.Conversions.{Start, LookUp, Step, AnswerOf, meets}
+use Rattle.typed.proofs.answer_of.Met as answer-thm
+use Rattle.typed.proofs.start_i64.Met as start-thm
+use Rattle.typed.proofs.lookup_i64_f32.Symbol as lookup
+use Rattle.typed.proofs.convert_i64_to_f32.Statement as stated
+use Rattle.typed.proofs.convert_i64_to_f32.Key.{name}
+use Rattle.typed.proofs.start_i64.Symbol as start
+use Rattle.typed.proofs.lookup_i64_f32.Met as lookup-thm
 
 pub convert-i64-to-f32-spec : {M : Type 1} → stated.statement M
 unfolding code.routine tablesOf

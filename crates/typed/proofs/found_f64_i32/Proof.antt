@@ -5,9 +5,9 @@ use mir.Val.{toZ, ofZ}
 use mir.Syntax.{w32}
 use borrow.Author.Needs.{needs}
 use Rattle.mapping.specs.declared.Lookup.the-variants.{Found}
-use Rattle.typed.proofs.found_f64_i32.Statement.{statement}
 use Rattle.typed.proofs.found_f64_i32.Tie as tie
 use Rattle.typed.specs.Typed.{i32Bits}
+use Rattle.typed.proofs.found_f64_i32.Statement.{statement}
 
 bits-i32-requires : tie.Need-bits-i32-requires
 bits-i32-requires c κs = search needs

@@ -3,16 +3,16 @@
 use contract.Running.{givenOf, tables, tablesOf}
 use denote.Triple.Spec.{tripleOf}
 use denote.Triple.Table.{entered, cited}
-use Rattle.typed.proofs.found_f32_u8.Symbol as found
-use Rattle.typed.proofs.lookup_f32_u8.Code as code
-use Rattle.typed.proofs.found_f32_u8.Met as found-thm
 use Rattle.typed.proofs.matches_f32_u8.Symbol as test
-use Rattle.typed.proofs.lookup_f32_u8.Statement as stated
 use Rattle.typed.proofs.EntryTypes.{f32-to-u8}
-use Rattle.typed.proofs.lookup_f32_u8.Key.{name}
+use Rattle.typed.proofs.lookup_f32_u8.Code as code
+use Rattle.typed.proofs.lookup_f32_u8.Statement as stated
+use Rattle.typed.proofs.found_f32_u8.Met as found-thm
+use Rattle.typed.proofs.lookup_f32_u8 as lookup
 use Rattle.typed.proofs.Lookups.{Test, FoundIn, meets}
 use Rattle.typed.proofs.matches_f32_u8.Met as test-thm
-use Rattle.typed.proofs.lookup_f32_u8 as lookup
+use Rattle.typed.proofs.lookup_f32_u8.Key.{name}
+use Rattle.typed.proofs.found_f32_u8.Symbol as found
 
 pub lookup-f32-u8-spec : {M : Type 1} → stated.statement M
 unfolding code.routine tablesOf

@@ -3,16 +3,16 @@
 use contract.Running.{givenOf, tables, tablesOf}
 use denote.Triple.Spec.{tripleOf}
 use denote.Triple.Table.{entered, cited}
-use Rattle.typed.proofs.matches_f64_f32.Met as test-thm
+use Rattle.typed.proofs.matches_f64_f32.Symbol as test
+use Rattle.typed.proofs.lookup_f64_f32 as lookup
 use Rattle.typed.proofs.lookup_f64_f32.Code as code
+use Rattle.typed.proofs.lookup_f64_f32.Key.{name}
 use Rattle.typed.proofs.EntryTypes.{f64-to-f32}
 use Rattle.typed.proofs.lookup_f64_f32.Statement as stated
-use Rattle.typed.proofs.lookup_f64_f32 as lookup
-use Rattle.typed.proofs.lookup_f64_f32.Key.{name}
-use Rattle.typed.proofs.matches_f64_f32.Symbol as test
 use Rattle.typed.proofs.found_f64_f32.Symbol as found
-use Rattle.typed.proofs.found_f64_f32.Met as found-thm
+use Rattle.typed.proofs.matches_f64_f32.Met as test-thm
 use Rattle.typed.proofs.Lookups.{Test, FoundIn, meets}
+use Rattle.typed.proofs.found_f64_f32.Met as found-thm
 
 pub lookup-f64-f32-spec : {M : Type 1} → stated.statement M
 unfolding code.routine tablesOf

@@ -1,25 +1,26 @@
--- `typed::matches_i64_f32` meets its contract: integers are equal where their patterns are.
+-- `typed::matches_i64_f32` meets its contract: its key's.
 -- Assumes nothing.
 use mathlib.Core.Path.{_≡_, ap, _∙_}
-use lib.Dec.{eqb, lit<}
+use lib.IntN.{ℤ}
 use mir.Val.{toZ, ofZ}
 use mir.Syntax.{w64}
 use borrow.Author.Needs.{needs}
-use Rattle.mapping.proofs.Codes.{coded-integers-match}
+use Rattle.patterns.specs.Value.{valueOf}
+use Rattle.kinds.specs.Codes.{kindOf}
+use Rattle.cast_spec.specs.Element.{matches}
 use Rattle.typed.proofs.matches_i64_f32.Tie as tie
-use Rattle.typed.proofs.matches_i64_f32.Statement.{statement}
-use Rattle.typed.proofs.Pairs.{i64-fits}
 use Rattle.typed.specs.Typed.{i64Bits}
+use Rattle.typed.proofs.matches_i64_f32.Statement.{statement}
 
-bits-i64-requires : tie.Need-bits-i64-requires
-bits-i64-requires c κs = search needs
+key-matches-i64-requires : tie.Need-key-matches-i64-requires
+key-matches-i64-requires c κs = search needs
 
--- a signed field is read back from its bits as it was
-held : (c : tie.After-bits-i64) → toZ w64 (ofZ w64 (c .before .before .args .e .key)) ≡ c .before .before .args .e .key
+-- a signed number is read back from its bits as it was
+held : (c : tie.After-key-matches-i64) → toZ w64 (ofZ w64 (c .before .before .args .e .key)) ≡ c .before .before .args .e .key
 held c = search needs
 
 returns : tie.Need-returns
-returns c = let t = c .before .before in ap (eqb (t .args .x)) (c .bits-i64 .ensures ∙ ap i64Bits (held c)) ∙ coded-integers-match 3 (t .args .x) (i64Bits (t .args .e .key)) (lit< tt) (t .pre) (i64-fits (t .args .e .key))
+returns c = c .key-matches-i64 .ensures ∙ ap (λ (z : ℤ). matches (valueOf (kindOf 3) (c .before .before .args .x)) (valueOf (kindOf 3) (i64Bits z))) (held c)
 
 pub matches-i64-f32-spec : {M : Type 1} → statement M
-matches-i64-f32-spec = tie.close (tie.spec bits-i64-requires returns)
+matches-i64-f32-spec = tie.close (tie.spec key-matches-i64-requires returns)

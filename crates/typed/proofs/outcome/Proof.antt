@@ -4,9 +4,9 @@ use mathlib.Core.Path.{sym, ap, _∙_}
 use borrow.Author.Needs.{needs}
 use Rattle.mapping.specs.declared.Lookup.{Lookup}
 use Rattle.typed.specs.Loop.{outcomeFor}
-use Rattle.typed.proofs.outcome.Tie as tie
 use Rattle.typed.proofs.Parts.{unmatched}
 use Rattle.typed.proofs.outcome.Statement.{statement}
+use Rattle.typed.proofs.outcome.Tie as tie
 
 enum-known-f : tie.Need-enum-known-f
 enum-known-f c = search needs

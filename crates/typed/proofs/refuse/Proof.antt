@@ -2,9 +2,9 @@
 -- Assumes nothing.
 use mathlib.Core.Path.{ap, _∙_}
 use borrow.Author.Needs.{needs}
-use Rattle.typed.proofs.refuse.Statement.{statement}
-use Rattle.typed.specs.Loop.{stopped}
 use Rattle.typed.proofs.refuse.Tie as tie
+use Rattle.typed.specs.Loop.{stopped}
+use Rattle.typed.proofs.refuse.Statement.{statement}
 
 refusal-requires : tie.Need-refusal-requires
 refusal-requires c κs = search needs

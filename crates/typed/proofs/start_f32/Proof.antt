@@ -2,10 +2,10 @@
 -- Assumes nothing.
 use denote.Ref.{now}
 use borrow.Author.Needs.{needs}
+use Rattle.typed.proofs.Parts.{starts, refuses-start}
 use Rattle.typed.specs.Typed.{f32Bits}
 use Rattle.typed.proofs.start_f32.Statement.{statement}
 use Rattle.typed.proofs.start_f32.Tie as tie
-use Rattle.typed.proofs.Parts.{starts, refuses-start}
 
 check-requires : tie.Need-check-requires
 check-requires c κs = search needs

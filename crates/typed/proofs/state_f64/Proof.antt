@@ -3,10 +3,10 @@
 use mathlib.Core.Path.{_∙_}
 use denote.Ref.{now}
 use borrow.Author.Needs.{needs}
-use Rattle.typed.specs.Typed.{f64Bits}
-use Rattle.typed.proofs.Parts.{within, past}
 use Rattle.typed.proofs.state_f64.Tie as tie
+use Rattle.typed.proofs.Parts.{within, past}
 use Rattle.typed.proofs.state_f64.Statement.{statement}
+use Rattle.typed.specs.Typed.{f64Bits}
 
 mul-bits-f64 : tie.Need-mul-bits-f64
 mul-bits-f64 c = search needs

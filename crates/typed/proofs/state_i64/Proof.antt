@@ -1,14 +1,14 @@
 -- `typed::state_i64` meets its contract: the element's pattern, or the end.
 -- Assumes nothing.
 use mathlib.Core.Path.{ap, _∙_}
-use lib.ListN.{getD}
 use lib.IntN.{pos}
+use lib.ListN.{getD}
 use mir.Syntax.{w64}
 use mir.ValLaws.{toZ-ofZ}
 use denote.Ref.{now}
 use borrow.Author.Needs.{needs}
-use Rattle.typed.specs.Typed.{i64Bits}
 use Rattle.typed.proofs.state_i64.Tie as tie
+use Rattle.typed.specs.Typed.{i64Bits}
 use Rattle.typed.proofs.Parts.{within, past}
 use Rattle.typed.proofs.state_i64.Statement.{statement}
 

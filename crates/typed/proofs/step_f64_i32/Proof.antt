@@ -1,17 +1,17 @@
 -- `typed::step_f64_i32` meets its contract: the element is stored, or refused.
 -- Assumes nothing.
-use mathlib.Core.Path.{_≡_, _∙_}
 use mathlib.Core.List.{map}
+use mathlib.Core.Path.{_≡_, _∙_}
 use mir.Val.{toZ, ofZ}
 use mir.Syntax.{w32}
 use denote.Ref.{now}
 use borrow.Author.Needs.{needs}
 use Rattle.chunk.proofs.Elements.{refuses}
-use Rattle.typed.specs.Typed.{f64Bits}
-use Rattle.typed.proofs.step_f64_i32.Tie as tie
-use Rattle.typed.proofs.Parts.{stored, refused}
 use Rattle.typed.specs.Loop.{outcomeFor, i32Of}
+use Rattle.typed.proofs.Parts.{stored, refused}
+use Rattle.typed.specs.Typed.{f64Bits}
 use Rattle.typed.proofs.step_f64_i32.Statement.{statement}
+use Rattle.typed.proofs.step_f64_i32.Tie as tie
 
 outcome-requires : tie.Need-outcome-requires
 outcome-requires c κs = search needs

@@ -4,11 +4,11 @@ use mathlib.Core.List.{map}
 use denote.Ref.{now}
 use borrow.Author.Needs.{needs}
 use Rattle.chunk.proofs.Elements.{refuses}
-use Rattle.typed.specs.Typed.{f64Bits}
-use Rattle.typed.specs.Loop.{outcomeFor, u8Of}
 use Rattle.typed.proofs.step_f64_u8.Tie as tie
-use Rattle.typed.proofs.step_f64_u8.Statement.{statement}
 use Rattle.typed.proofs.Parts.{stored, refused}
+use Rattle.typed.specs.Loop.{outcomeFor, u8Of}
+use Rattle.typed.specs.Typed.{f64Bits}
+use Rattle.typed.proofs.step_f64_u8.Statement.{statement}
 
 outcome-requires : tie.Need-outcome-requires
 outcome-requires c κs = search needs

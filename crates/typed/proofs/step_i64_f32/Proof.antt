@@ -4,11 +4,11 @@ use mathlib.Core.List.{map}
 use denote.Ref.{now}
 use borrow.Author.Needs.{needs}
 use Rattle.chunk.proofs.Elements.{refuses}
+use Rattle.typed.proofs.step_i64_f32.Statement.{statement}
 use Rattle.typed.specs.Loop.{outcomeFor, f32Of}
 use Rattle.typed.proofs.Parts.{stored, refused}
-use Rattle.typed.proofs.step_i64_f32.Tie as tie
-use Rattle.typed.proofs.step_i64_f32.Statement.{statement}
 use Rattle.typed.specs.Typed.{i64Bits}
+use Rattle.typed.proofs.step_i64_f32.Tie as tie
 
 outcome-requires : tie.Need-outcome-requires
 outcome-requires c κs = search needs
