@@ -89,7 +89,7 @@ fn convert_at(
 }
 
 // The answer that a refusal of the element at a position is.
-fn refusal(position: usize, o: Outcome) -> Answer
+pub fn refusal(position: usize, o: Outcome) -> Answer
     ensures { λ r. ⌜ r ≡ answerNext o position Answer.Converted ⌝ }
 {
     match o {

@@ -1,0 +1,13 @@
+pub mod Again
+pub mod Conversions
+pub mod EntryTypes
+pub mod LendArray
+pub mod Lookups
+pub mod Pairs
+pub mod Parts
+pub mod Patterns
+pub mod Places
+pub mod Signed
+pub mod Stored
+pub mod Threes
+pub mod Turns

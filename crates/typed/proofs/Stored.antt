@@ -1,0 +1,127 @@
+-- A pattern that a conversion to f32 stores is no NaN's but the quiet one, where the elements' and the targets' patterns are so: it is the one that the f32 read from it has.
+-- Assumes nothing.
+use mathlib.Core.Bool.{Bool, true, false, not, cond, _&&_}
+use mathlib.Core.Path.{_≡_, refl, sym, ap, subst, _∙_}
+use mathlib.Core.List.{List, [], _∷_, map}
+use Prim.Native.Nat.{ℕ, _%_, _^_, _<_}
+use native.Mathlib.Omega.{arith}
+use native.Mathlib.Nat.{mod-eq-of-lt}
+use lib.Ieee.Bits.{ofBits-fits, toBits-ofBits}
+use lib.IntN.{ℤ, pos, natAbs}
+use lib.Signed.{_≤ℤ_, leZ, leZ-yes}
+use lib.Ieee as F
+use lib.Ieee.{Float, Format, binary32, binary64, fits, isNan, ofBits, toBits}
+use lib.Dec.{T, lit<, lit≤}
+use Rattle.grid.specs.Round.{pick, signed}
+use Rattle.grid.specs.Grid.{OnGrid}
+use Rattle.grid.proofs.Picked.{picked}
+use Rattle.bytes_le.specs.Bytes.{toLe}
+use Rattle.patterns.proofs.Ieee.{Agrees, kindFor, agree}
+use Rattle.patterns.specs.Kind.{Kind, integer, f32, f64, gridOf, lowest, highest, InRange, WellFormed}
+use Rattle.patterns.specs.Pattern.{patternOf, infinity, nanPattern, asF64}
+use Rattle.patterns.proofs.Floats.{inf-back, inf-fits}
+use Rattle.patterns.specs.Value.{Value, nan, inf, num, negative, valueOf}
+use Rattle.patterns.proofs.AnyKind.{sound, sign-of, pick-sign, pattern-back, pattern-fits}
+use Rattle.kinds.specs.declared.OutOfRangeMode.{OutOfRangeMode}
+use Rattle.kinds.specs.declared.OutOfRangeMode.the-variants.{None, Clamp, Wrap}
+use Rattle.kinds.specs.declared.Outcome.{Outcome}
+use Rattle.kinds.specs.declared.Outcome.the-variants.{Stored, NanOrInf, OutOfRange, FloatOutOfRange}
+use Rattle.cast_spec.specs.Element.{Entry, Settings, matches, mapped, ranged, beyond, converted, outcomeOf}
+use Rattle.typed.specs.Typed.{floatBits, f32Bits}
+use Rattle.typed.specs.Loop.{f32Of}
+use Rattle.typed.proofs.Patterns.{bits-below, bits-back}
+
+-- ---- a pattern's value and the language's float are a NaN alike
+nan-agrees : (x : Float) (v : Value) → Agrees x v → v ≡ nan → x ≡ F.nan
+nan-agrees F.nan v a e = refl
+nan-agrees (F.inf s) v a e = let z : _≡_ {A = ℕ} 0 1 = cc in absurd (omega arith)
+nan-agrees (F.fin s m k) v a e = let f = sym e ∙ a .2 in let z : _≡_ {A = ℕ} 0 1 = cc in absurd (omega arith)
+
+no-nan-agrees : (x : Float) (v : Value) → Agrees x v → (v ≡ nan → ⊥) → T (not (isNan x))
+unfolding isNan
+no-nan-agrees F.nan v a f = f a
+no-nan-agrees (F.inf s) v a f = tt
+no-nan-agrees (F.fin s m k) v a f = tt
+
+-- a float's pattern that stands for a NaN is the quiet one
+pub quiet : (f : Format) (x : Float) → valueOf (kindFor f) (floatBits f x) ≡ nan → floatBits f x ≡ toBits f F.nan
+quiet f x e = sym (bits-back f x) ∙ ap (toBits f) (nan-agrees (ofBits f (floatBits f x)) _ (agree f (floatBits f x)) e)
+
+-- ---- the f32 read from the pattern b has the pattern b
+abbrev pub Back : ℕ → Type 0
+Back b = (toBits binary32 (ofBits binary32 b) ≡ b) × (b < 2 ^ 32)
+
+pub bits-are-back : (x : Float) → Back (f32Bits x)
+bits-are-back x = (bits-back binary32 x, bits-below binary32 x)
+
+-- the quiet NaN of f64 is narrowed to that of f32; an integer is no NaN
+pub quiet-kept : Back (nanPattern f64 24 8 (toBits binary64 F.nan))
+unfolding nanPattern toBits ofBits
+quiet-kept = (refl, lit< tt)
+
+pub no-integer-nan : (s : Bool) (n b : ℕ) → valueOf (integer s n) b ≡ nan → ⊥
+unfolding valueOf
+no-integer-nan s n b e = let z : _≡_ {A = ℕ} 0 1 = cc in omega arith
+
+not-nan : (b : ℕ) → b < 2 ^ 32 → (valueOf f32 b ≡ nan → ⊥) → Back b
+not-nan b h f = (toBits-ofBits binary32 b h (no-nan-agrees (ofBits binary32 b) (valueOf f32 b) (agree binary32 b) f), h)
+
+pub read-back : (b : ℕ) → Back b → toLe 4 (f32Bits (f32Of b)) ≡ toLe 4 b
+read-back b k =
+    let x = ofBits binary32 (b % 2 ^ 32) in
+    ap (λ (t : Bool). toLe 4 (cond t (toBits binary32 x) 0)) (held (fits binary32 x) (ofBits-fits binary32 (b % 2 ^ 32)))
+    ∙ ap (λ (z : ℕ). toLe 4 (toBits binary32 (ofBits binary32 z))) (mod-eq-of-lt (k .1)) ∙ ap (toLe 4) (k .0)
+  where
+    held : (t : Bool) → T t → t ≡ true
+    held true h = refl
+    held false h = absurd h
+
+abbrev Good : Outcome → Type 0
+Good (Stored b) = Back b
+Good (NanOrInf v) = Unit {0}
+Good (OutOfRange v lo hi) = Unit {0}
+Good (FloatOutOfRange v lo hi) = Unit {0}
+
+-- ---- the steps
+mapped-good : {Z : Type 0} (of : Z → Entry) → ((z : Z) → Back (of z .target)) → (k : Kind) (v : Value) (zs : List Z) (o : Outcome) → Good o → Good (mapped k v (map of zs) o)
+mapped-good of h k v [] o g = g
+mapped-good of h k v (z ∷ zs) o g = go (matches v (valueOf k (of z .key))) (mapped-good of h k v zs o g)
+  where
+    go : (t : Bool) → Good (mapped k v (map of zs) o) → Good (cond t (Stored (of z .target)) (mapped k v (map of zs) o))
+    go true r = h z
+    go false r = r
+
+beyond-good : (m : OutOfRangeMode) (u : ℕ) (neg : Bool) (y : ℤ) → Good (beyond f32 m u neg y)
+unfolding beyond
+beyond-good None u neg y = tt
+beyond-good Clamp u neg y = not-nan (infinity 24 8 neg) (inf-fits 24 8 925 (lit≤ tt) (lit< tt) neg) (λ e. let f = sym (inf-back 24 8 925 (lit≤ tt) (lit< tt) neg) ∙ e in let z : _≡_ {A = ℕ} 0 1 = cc in omega arith)
+beyond-good Wrap u neg y = tt
+
+ranged-good : (m : OutOfRangeMode) (u : ℕ) (neg : Bool) (y : ℤ) → OnGrid (gridOf f32) y → y ≡ signed neg (natAbs y) → Good (ranged f32 m u neg y)
+ranged-good m u neg y on e = go (leZ (lowest f32) y) (leZ y (highest f32)) leZ-yes leZ-yes
+  where
+    ok : WellFormed f32
+    ok = (lit≤ tt, lit< tt)
+
+    go : (c d : Bool) → (T c → lowest f32 ≤ℤ y) → (T d → y ≤ℤ highest f32) → Good (cond (c && d) (Stored (patternOf f32 neg y)) (beyond f32 m u neg y))
+    go true true a b = let h : InRange f32 y = (a tt, b tt) in not-nan (patternOf f32 neg y) (pattern-fits f32 neg y ok on h) (λ g. let f = sym (pattern-back f32 neg y ok on h e) ∙ g in let z : _≡_ {A = ℕ} 0 1 = cc in omega arith)
+    go true false a b = beyond-good m u neg y
+    go false d a b = beyond-good m u neg y
+
+module _ (S : Settings) (b : ℕ) (quiet-nan : valueOf (S .from) b ≡ nan → Back (nanPattern (S .from) 24 8 b)) where
+  converted-good : (v : Value) → valueOf (S .from) b ≡ v → Good (converted S b f32 v)
+  unfolding beyond
+  converted-good (num x) e =
+      let P = picked (gridOf f32) (sound f32 (lit≤ tt, lit< tt)) (S .rule) x in
+      ranged-good (S .range) (asF64 (S .from) b) (negative (S .from) b) (pick (gridOf f32) (S .rule) x) (P .on) (pick-sign (gridOf f32) (sound f32 (lit≤ tt, lit< tt)) (S .rule) (negative (S .from) b) x (sign-of (S .from) b x e))
+  converted-good (inf neg) e = beyond-good Clamp 0 neg (pos 0)
+  converted-good nan e = quiet-nan e
+
+-- ---- what is stored by settings to f32, whose entries have such targets
+pub stored-back : {Z : Type 0} (of : Z → Entry) → ((z : Z) → Back (of z .target)) → (zs : List Z) (S : Settings) → S .to ≡ f32 → S .entries ≡ map of zs → (x b : ℕ)
+    → (valueOf (S .from) x ≡ nan → Back (nanPattern (S .from) 24 8 x)) → outcomeOf S x ≡ Stored b → Back b
+unfolding outcomeOf
+stored-back of h zs S to es x b q e =
+    let v = valueOf (S .from) x in
+    subst Good (ap (λ (k : Kind). mapped (S .from) v (map of zs) (converted S x k v)) (sym to) ∙ ap (λ (l : List Entry). mapped (S .from) v l (converted S x (S .to) v)) (sym es) ∙ e)
+    (mapped-good of h (S .from) v zs (converted S x f32 v) (converted-good S x q v refl))

@@ -1,0 +1,281 @@
+-- The loop of a typed entry keeps the definitions' account of the rest, and ends with the chunk call's contract. For any two kinds, any entries and any type of the destination's elements.
+-- Assumes nothing.
+use mathlib.Core.List.{List, [], _++_, map}
+use mathlib.Core.Bool.{Bool, true, false, cond, _&&_, true≢false}
+use mathlib.Core.Path.{_≡_, refl, sym, ap, ap₂, subst, _∙_}
+use Prim.Native.Nat.{ℕ, suc, _+_, _-_, _*_, _/_, _%_, _^_, _≤_, _<_}
+use native.Mathlib.Omega.{arith}
+use native.Mathlib.Nat.{mul-div-cancel, mul-mod-left, le-of-eq, le-trans, mul-le-mul-right, sub-zero, zero-mul}
+use native.Mathlib.Numerals.{add-one}
+use lib.ListN.{length, getD, take, drop, set, length-set, length-map}
+use lib.Dec.{T, ltb, eqb}
+use borrow.Author.Tests.{lt-ltb, eq-eqb, ltb-true, ltb-false, eqb-true, eqb-false}
+use Rattle.grid.specs.declared.RoundingMode.{RoundingMode}
+use Rattle.bytes_le.specs.Bytes.{toLe}
+use Rattle.patterns.specs.Kind.{Kind, integer, binary, bits}
+use Rattle.patterns.specs.Value.{Value, nan, inf, num, valueOf}
+use Rattle.kinds.specs.declared.OutOfRangeMode.{OutOfRangeMode}
+use Rattle.kinds.specs.declared.Answer.{Answer}
+use Rattle.kinds.specs.declared.Outcome.{Outcome}
+use Rattle.kinds.specs.declared.Outcome.the-variants.{Stored, NanOrInf, OutOfRange, FloatOutOfRange}
+use Rattle.kinds.specs.Codes.{kindOf, roundingOf, rangeOf}
+use Rattle.kinds.specs.declared.Answer.the-variants as A
+use Rattle.mapping.proofs.Entries.{mapped-by-lookup}
+use Rattle.mapping.specs.Map.{lookupOf, foundOr}
+use Rattle.mapping.specs.declared.Lookup.{Lookup}
+use Rattle.cast_spec.specs.Demand3.{Contract, Refuses}
+use Rattle.cast_spec.proofs.Demand3.{contract, kind-fits, answer-is, destination-is}
+use Rattle.cast_spec.specs.Element.{Entry, Settings, converted, outcomeOf}
+use Rattle.cast_spec.specs.Chunk.{Inputs, width, settingsOf, codesListed, mapWhole, bytesWhole, callOf, outcomeAt, answerNext, answerFrom, answerOf, bytesFrom, destinationOf, entriesFrom}
+use Rattle.chunk.proofs.Runs.{Run, done, refused, kept}
+use Rattle.chunk.proofs.Exits.{width-pos, unknown, mismatch}
+use Rattle.typed.specs.Loop.{going, stopped, stateAt, startOf, outcomeFor, nextState, storedIn}
+use Rattle.typed.specs.Typed.{bytesOf, typedInputs}
+use Rattle.typed.specs.declared.State.{State}
+use Rattle.typed.proofs.Places.{map-set, mapped-below, entry-below, some-element, length-bytes, pattern-at, set-bytes, entries-back}
+
+-- ---- a conversion does not look at the entries
+no-map : (from to : Kind) (rule : RoundingMode) (choice : OutOfRangeMode) (es : List Entry) (b : ℕ) (k : Kind) (v : Value)
+    → converted (record { from = from; to = to; rule = rule; range = choice; entries = [] }) b k v ≡ converted (record { from = from; to = to; rule = rule; range = choice; entries = es }) b k v
+no-map from to rule choice es b k (num x) = refl
+no-map from to rule choice es b (integer t n) (inf neg) = refl
+no-map from to rule choice es b (integer t n) nan = refl
+no-map from to rule choice es b (binary p w t) (inf neg) = refl
+no-map from to rule choice es b (binary p w t) nan = refl
+
+-- ---- whole elements
+whole : (n l w : ℕ) → 0 < w → l ≡ n * w → (l / w ≡ n) × (l % w ≡ 0)
+whole n l w h e = (ap (λ (z : ℕ). z / w) e ∙ mul-div-cancel n h, ap (λ (z : ℕ). z % w) e ∙ mul-mod-left n w)
+
+-- ---- a pair of kinds: the elements' and the entries' patterns, and how a destination's element of type Y is read from a stored pattern
+abbrev pub settings : ℕ → ℕ → List Entry → ℕ → ℕ → Settings
+settings from to es rounding range = record { from = kindOf from; to = kindOf to; rule = roundingOf rounding; range = rangeOf range; entries = es }
+
+pub record Elements (X Y Z : Type 0) : Type 0 where
+  pub from : ℕ
+  pub to : ℕ
+  pub from-listed : from < 10
+  pub to-listed : to < 10
+  pub source-bits : X → ℕ
+  pub target-bits : Y → ℕ
+  pub target-of : ℕ → Y
+  pub entry-bits : Z → Entry
+  pub source-fits : (x : X) → source-bits x < 2 ^ bits (kindOf from)
+  pub key-fits : (e : Z) → entry-bits e .key < 2 ^ bits (kindOf from)
+  pub target-fits : (e : Z) → entry-bits e .target < 2 ^ bits (kindOf to)
+  -- a pattern that is stored is the one that the element then has
+  pub keeps : (es : List Z) (rounding range : ℕ) (x : X) (b : ℕ) → outcomeOf (settings from to (map entry-bits es) rounding range) (source-bits x) ≡ Stored b
+      → toLe (width (kindOf to)) (target-bits (target-of b)) ≡ toLe (width (kindOf to)) b
+
+module _ {X Y Z : Type 0} (P : Elements X Y Z) (xs : List X) (ys : List Z) (rounding range : ℕ) where
+  abbrev from : ℕ
+  from = P .from
+
+  abbrev to : ℕ
+  to = P .to
+
+  abbrev ps : List ℕ
+  ps = map (P .source-bits) xs
+
+  abbrev es : List Entry
+  es = map (P .entry-bits) ys
+
+  abbrev none : Entry
+  none = record { key = 0; target = 0 }
+
+  abbrev S : Settings
+  S = settings from to es rounding range
+
+  fits : (i : ℕ) → i < length ps → getD ps i 0 < 2 ^ bits (kindOf from)
+  fits = mapped-below (P .source-bits) (2 ^ bits (kindOf from)) (P .source-fits) xs
+
+  -- what the program has of an element is what its steps come to
+  pub outcome-is : (x : ℕ) (f : Lookup) → f ≡ lookupOf (kindOf from) (valueOf (kindOf from) x) es → outcomeFor from to x f rounding range ≡ outcomeOf S x
+  unfolding outcomeOf
+  outcome-is x f e =
+      let v = valueOf (kindOf from) x in
+      ap₂ foundOr e (no-map (kindOf from) (kindOf to) (roundingOf rounding) (rangeOf range) es x (kindOf to) v)
+      ∙ sym (mapped-by-lookup (kindOf from) v es (converted S x (kindOf to) v))
+
+  abbrev v : ℕ
+  v = width (kindOf from)
+
+  abbrev w : ℕ
+  w = width (kindOf to)
+
+  module _ (qs : List ℕ) where
+    abbrev I : Inputs
+    I = typedInputs from to ps qs es rounding range
+
+    source-whole : (length (I .source) / v ≡ length ps) × (length (I .source) % v ≡ 0)
+    source-whole = whole (length ps) _ v (width-pos from (P .from-listed)) (length-bytes v ps)
+
+    target-whole : (length (I .destination) / w ≡ length qs) × (length (I .destination) % w ≡ 0)
+    target-whole = whole (length qs) _ w (width-pos to (P .to-listed)) (length-bytes w qs)
+
+    keys-whole : (length (I .keys) / v ≡ length es) × (length (I .keys) % v ≡ 0)
+    keys-whole = whole (length es) _ v (width-pos from (P .from-listed)) (length-bytes v (map (λ (e : Entry). e .key) es) ∙ ap (λ (z : ℕ). z * v) (length-map es (λ (e : Entry). e .key)))
+
+    targets-whole : (length (I .targets) / w ≡ length es) × (length (I .targets) % w ≡ 0)
+    targets-whole = whole (length es) _ w (width-pos to (P .to-listed)) (length-bytes w (map (λ (e : Entry). e .target) es) ∙ ap (λ (z : ℕ). z * w) (length-map es (λ (e : Entry). e .target)))
+
+    codes-are : codesListed I ≡ ltb rounding 5 && ltb range 3
+    codes-are = simp (lt-ltb from 10 (P .from-listed), lt-ltb to 10 (P .to-listed))
+
+    map-is-whole : mapWhole I ≡ true
+    map-is-whole = simp (eq-eqb _ _ (keys-whole .1), eq-eqb _ _ (targets-whole .1), eq-eqb _ _ (keys-whole .0 ∙ sym (targets-whole .0)))
+
+    bytes-are-whole : bytesWhole I ≡ true
+    bytes-are-whole = simp (eq-eqb _ _ (source-whole .1), eq-eqb _ _ (target-whole .1))
+
+    -- ---- the call of the definitions
+    settings-are : settingsOf I ≡ S
+    unfolding settingsOf
+    settings-are = ap {B = Settings} (λ (l : List Entry). record { from = kindOf from; to = kindOf to; rule = roundingOf rounding; range = rangeOf range; entries = l })
+        (ap (entriesFrom v w (I .keys) (I .targets) 0) (keys-whole .0) ∙ entries-back v w es none (λ j h. subst (λ (z : ℕ). getD es j none .key < z) (sym (kind-fits from)) (entry-below (P .entry-bits) (λ (e : Entry). e .key) _ (P .key-fits) none ys j h)) (λ j h. subst (λ (z : ℕ). getD es j none .target < z) (sym (kind-fits to)) (entry-below (P .entry-bits) (λ (e : Entry). e .target) _ (P .target-fits) none ys j h)))
+
+    outcome-at : (i : ℕ) → i < length ps → outcomeAt (callOf I) i ≡ outcomeOf S (getD ps i 0)
+    unfolding outcomeAt callOf
+    outcome-at i h = ap₂ outcomeOf settings-are (pattern-at v ps i h (subst (λ (z : ℕ). getD ps i 0 < z) (sym (kind-fits from)) (fits i h)))
+
+    count-is : callOf I .count ≡ length ps
+    unfolding callOf
+    count-is = source-whole .0
+
+    module _ (codes : ltb rounding 5 && ltb range 3 ≡ true) (meet : length ps ≡ length qs) where
+      passes : T (callOf I .passed)
+      unfolding callOf
+      passes = let e : callOf I .passed ≡ true = simp (codes-are ∙ codes, map-is-whole, bytes-are-whole, eq-eqb _ _ (source-whole .0 ∙ meet ∙ sym (target-whole .0))) in subst T (sym e) tt
+
+      first : Run (outcomeAt (callOf I)) w (length ps) (answerOf I) (destinationOf I) 0 (I .destination)
+      first =
+          let c : callOf I .count ≡ length ps - 0 = count-is ∙ sym (sub-zero (length ps)) in record {
+            answer = answer-is I passes ∙ ap (answerFrom (outcomeAt (callOf I)) 0) c;
+            bytes = destination-is I passes ∙ ap (λ (n : ℕ). bytesFrom (outcomeAt (callOf I)) w 0 n (I .destination)) c
+                ∙ ap (λ (z : ℕ). take z (I .destination) ++ bytesFrom (outcomeAt (callOf I)) w 0 (length ps - 0) (drop z (I .destination))) (sym (zero-mul w));
+          }
+
+  -- ---- the loop, over a destination ds
+  module _ (ds : List Y) where
+    abbrev of : Y → ℕ
+    of = P .target-bits
+
+    abbrev read : ℕ → Y
+    read = P .target-of
+
+    abbrev In : Inputs
+    In = I (map of ds)
+
+    abbrev bytes : List Y → List ℕ
+    bytes zs = bytesOf w (map of zs)
+
+    abbrev R : Answer
+    R = answerOf In
+
+    abbrev W : List ℕ
+    W = destinationOf In
+
+    abbrev o : ℕ → Outcome
+    o = outcomeAt (callOf In)
+
+    -- the element at the state's position is to be converted
+    pub record On (s : State) (zs : List Y) : Type 0 where
+      pub below : s .at < length ps
+      pub meet : length ps ≡ length ds
+      pub x-is : s .x ≡ getD ps (s .at) 0
+      pub run : Run o w (length ps) R W (s .at) (bytes zs)
+
+    -- what holds where the loop's test is reached, at the destination zs
+    pub record Inv (s : State) (zs : List Y) : Type 0 where
+      pub long : length zs ≡ length ds
+      pub on : s .more ≡ true → On s zs
+      pub off : s .more ≡ false → Contract In (s .answer) (bytes zs)
+
+    -- so many turns at most are left
+    abbrev pub left : State → ℕ
+    left s = cond (s .more) (suc (length ps - s .at)) 0
+
+    over : (i : ℕ) (a : Answer) (zs : List Y) → length zs ≡ length ds → Contract In a (bytes zs) → Inv (stopped i a) zs
+    over i a zs long c = record { long = long; on = λ h. absurd (true≢false (sym h)); off = λ _. c }
+
+    at-position : (i : ℕ) (zs : List Y) → i ≤ length ps → length ps ≡ length ds → length zs ≡ length ds → Run o w (length ps) R W i (bytes zs) → Inv (stateAt ps i) zs
+    at-position i zs h meet long run = go (ltb i (length ps)) refl
+      where
+        go : (t : Bool) → ltb i (length ps) ≡ t → Inv (cond t (going i (getD ps i 0)) (stopped i A.Converted)) zs
+        go true e = record { long = long; on = λ _. record { below = ltb-true i (length ps) e; meet = meet; x-is = refl; run = run }; off = λ f. absurd (true≢false f) }
+        go false e =
+            let l : i ≡ length ps = omega (arith, ltb-false i (length ps) e) in
+            let d = done o w (length ps) R W i (bytes zs) run l in over i A.Converted zs long (contract In A.Converted (bytes zs) (d .0) (d .1))
+
+    pub starts : Inv (startOf ps (length ds) rounding range) ds
+    starts = go (ltb rounding 5 && ltb range 3) refl (eqb (length ps) (length ds)) refl
+      where
+        long : length (map of ds) ≡ length ds
+        long = length-map ds of
+
+        go : (t : Bool) → ltb rounding 5 && ltb range 3 ≡ t → (u : Bool) → eqb (length ps) (length ds) ≡ u
+            → Inv (let s = cond t (cond u (going 0 0) (stopped 0 (A.LengthMismatch (length ps) (length ds)))) (stopped 0 A.UnknownCode) in cond (s .more) (stateAt ps 0) s) ds
+        go false e u f = over 0 A.UnknownCode ds refl (unknown In (codes-are (map of ds) ∙ e))
+        go true e false f =
+            let n : length ps ≡ length ds → ⊥ = eqb-false (length ps) (length ds) f in
+            over 0 (A.LengthMismatch (length ps) (length ds)) ds refl
+            (subst (λ (r : Answer). Contract In r (bytes ds)) (ap₂ A.LengthMismatch (source-whole (map of ds) .0) (target-whole (map of ds) .0 ∙ long))
+            (mismatch In (codes-are (map of ds) ∙ e) (map-is-whole (map of ds)) (bytes-are-whole (map of ds)) (λ h. n (sym (source-whole (map of ds) .0) ∙ h ∙ target-whole (map of ds) .0 ∙ long))))
+        go true e true f = let m = eqb-true (length ps) (length ds) f in at-position 0 ds (omega arith) m refl (first (map of ds) e (m ∙ sym long))
+
+    -- ---- one turn
+    keeps : (i b : ℕ) → i < length ps → outcomeOf S (getD ps i 0) ≡ Stored b → toLe w (of (read b)) ≡ toLe w b
+    keeps i b h e = let x = some-element (P .source-bits) xs i h in P .keeps ys rounding range (x .0) b (ap (outcomeOf S) (x .1) ∙ e)
+
+    module _ (s : State) (zs : List Y) (inv : Inv s zs) (more : s .more ≡ true) where
+      now : On s zs
+      now = inv .on more
+
+      abbrev i : ℕ
+      i = s .at
+
+      pub asks : (s .x < 2 ^ bits (kindOf from)) × (s .at < length xs) × (s .at < length zs)
+      asks = (subst (λ (z : ℕ). z < 2 ^ bits (kindOf from)) (sym (now .x-is)) (fits i (now .below)), subst (λ (n : ℕ). i < n) (length-map xs (P .source-bits)) (now .below), omega (arith, now .below, now .meet, inv .long))
+
+      turned : (z : Outcome) → z ≡ outcomeOf S (getD ps i 0) → Inv (nextState z ps i) (storedIn read z zs i) × (left (nextState z ps i) < left s)
+      turned z e = (next z (e ∙ sym (outcome-at (map of ds) i (now .below))) e, subst (λ (n : ℕ). left (nextState z ps i) < n) (sym turns-left) (fewer z))
+        where
+          turns-left : left s ≡ suc (length ps - i)
+          turns-left = ap (λ (t : Bool). cond t (suc (length ps - i)) 0) more
+
+          fewer : (x : Outcome) → left (nextState x ps i) < suc (length ps - i)
+          fewer (Stored b) = go (ltb (i + 1) (length ps))
+            where
+              go : (t : Bool) → left (cond t (going (i + 1) (getD ps (i + 1) 0)) (stopped (i + 1) A.Converted)) < suc (length ps - i)
+              go true = omega (arith, now .below)
+              go false = omega arith
+          fewer (NanOrInf x) = omega arith
+          fewer (OutOfRange x lo hi) = omega arith
+          fewer (FloatOutOfRange x lo hi) = omega arith
+
+          stays : (x : Outcome) → x ≡ o i → Refuses x → Inv (stopped i (answerNext x i A.Converted)) zs
+          stays x f r =
+              let g = refused o w (length ps) R W i (bytes zs) (now .run) (now .below) (subst Refuses f r) in
+              over i (answerNext x i A.Converted) zs (inv .long) (contract In (answerNext x i A.Converted) (bytes zs) (ap (λ (u : Outcome). answerNext u i A.Converted) f ∙ sym (g .0)) (g .1))
+
+          next : (x : Outcome) → x ≡ o i → x ≡ outcomeOf S (getD ps i 0) → Inv (nextState x ps i) (storedIn read x zs i)
+          next (Stored b) f h =
+              let l : i < length zs = asks .2 in
+              let room : i * w + w ≤ length (bytes zs) = le-trans (le-of-eq (shift i w)) (le-trans (mul-le-mul-right w l) (le-of-eq (sym (length-bytes w (map of zs) ∙ ap (λ (n : ℕ). n * w) (length-map zs of))))) in
+              at-position (i + 1) (set zs i (read b)) (omega (arith, now .below)) (now .meet) (length-set zs i (read b) ∙ inv .long)
+              (rw add-one (kept o w (length ps) R W i (bytes zs) (now .run) (now .below) b (bytes (set zs i (read b))) (sym f) room
+              (ap (bytesOf w) (map-set of zs i (read b)) ∙ set-bytes w (map of zs) i (of (read b)) (subst (λ (n : ℕ). i < n) (sym (length-map zs of)) l)
+              ∙ ap (λ (t : List ℕ). take (i * w) (bytes zs) ++ (t ++ drop w (drop (i * w) (bytes zs)))) (keeps i b (now .below) (sym h)))))
+            where
+              shift : (i w : ℕ) → i * w + w ≡ suc i * w
+              shift i w = omega arith
+          next (NanOrInf x) f h = stays (NanOrInf x) f tt
+          next (OutOfRange x lo hi) f h = stays (OutOfRange x lo hi) f tt
+          next (FloatOutOfRange x lo hi) f h = stays (FloatOutOfRange x lo hi) f tt
+
+      -- what was found, and what the step then says of the state and of the destination
+      pub turns : (f : Lookup) → f ≡ lookupOf (kindOf from) (valueOf (kindOf from) (s .x)) es → (r : State) (ws : List Y)
+          → (r ≡ nextState (outcomeFor from to (s .x) f rounding range) ps (s .at)) × (ws ≡ storedIn read (outcomeFor from to (s .x) f rounding range) zs (s .at)) → Inv r ws × (left r < left s)
+      turns f e r ws said =
+          let t = turned (outcomeFor from to (s .x) f rounding range) (outcome-is (s .x) f e ∙ ap (outcomeOf S) (now .x-is)) in
+          (subst (λ (p : State × List Y). Inv (p .0) (p .1)) (λ j. (sym (said .0) j, sym (said .1) j)) (t .0), subst (λ (x : State). left x < left s) (sym (said .0)) (t .1))

@@ -1,0 +1,65 @@
+-- The loop of a typed entry, over patterns: its state, and what one element does to it.
+-- Assumes nothing.
+use mathlib.Core.Bool.{true, false, cond, _&&_}
+use mathlib.Core.List.{List}
+use Prim.Native.Nat.{ℕ, _+_, _-_, _%_, _^_}
+use lib.Dec.{ltb, eqb}
+use lib.Ieee.{Float, binary32, ofBits}
+use lib.IntN.{ℤ, pos, negsuc}
+use lib.ListN.{length, getD, set}
+use Rattle.kinds.specs.Codes.{kindOf, roundingOf, rangeOf}
+use Rattle.kinds.specs.declared.Outcome.{Outcome}
+use Rattle.kinds.specs.declared.Outcome.the-variants.{Stored, NanOrInf, OutOfRange, FloatOutOfRange}
+use Rattle.kinds.specs.declared.Answer.{Answer}
+use Rattle.kinds.specs.declared.Answer.the-variants as A
+use Rattle.element.specs.Convert.{unmapped}
+use Rattle.mapping.specs.declared.Lookup.{Lookup}
+use Rattle.mapping.specs.Map.{foundOr}
+use Rattle.cast_spec.specs.Chunk.{answerNext}
+use Rattle.typed.specs.declared.State.{State}
+
+-- ---- states
+
+-- the element at i is to be converted, and its pattern is x
+abbrev pub going : ℕ → ℕ → State
+going i x = record { more = true; at = i; x = x; answer = A.Converted }
+
+abbrev pub stopped : ℕ → Answer → State
+stopped i a = record { more = false; at = i; x = 0; answer = a }
+
+abbrev pub stateAt : List ℕ → ℕ → State
+stateAt ps i = cond (ltb i (length ps)) (going i (getD ps i 0)) (stopped i A.Converted)
+
+-- the checks of n source and m destination elements: 1, then 4
+abbrev pub checkOf : ℕ → ℕ → ℕ → ℕ → State
+checkOf n m rounding range = cond (ltb rounding 5 && ltb range 3) (cond (eqb n m) (going 0 0) (stopped 0 (A.LengthMismatch n m))) (stopped 0 A.UnknownCode)
+
+abbrev pub startOf : List ℕ → ℕ → ℕ → ℕ → State
+startOf ps m rounding range = let s = checkOf (length ps) m rounding range in cond (s .more) (stateAt ps 0) s
+
+-- ---- the destination after an outcome at the position i, where `of` reads a pattern as a value of the target
+abbrev pub storedIn : {D : Type 0} → (ℕ → D) → Outcome → List D → ℕ → List D
+storedIn of (Stored b) ds i = set ds i (of b)
+storedIn of (NanOrInf v) ds i = ds
+storedIn of (OutOfRange v lo hi) ds i = ds
+storedIn of (FloatOutOfRange v lo hi) ds i = ds
+
+-- ---- one element of the pattern x, for which the map gives f
+abbrev pub outcomeFor : ℕ → ℕ → ℕ → Lookup → ℕ → ℕ → Outcome
+outcomeFor from to x f rounding range = foundOr f (unmapped (kindOf from) (kindOf to) (roundingOf rounding) (rangeOf range) x)
+
+abbrev pub nextState : Outcome → List ℕ → ℕ → State
+nextState (Stored b) ps i = stateAt ps (i + 1)
+nextState (NanOrInf v) ps i = stopped i (answerNext (NanOrInf v) i A.Converted)
+nextState (OutOfRange v lo hi) ps i = stopped i (answerNext (OutOfRange v lo hi) i A.Converted)
+nextState (FloatOutOfRange v lo hi) ps i = stopped i (answerNext (FloatOutOfRange v lo hi) i A.Converted)
+
+-- ---- the value of the target that a pattern's lowest bits are
+abbrev pub u8Of : ℕ → ℕ
+u8Of b = b % 2 ^ 8
+
+abbrev pub i32Of : ℕ → ℤ
+i32Of b = let low = b % 2 ^ 32 in cond (ltb low (2 ^ 31)) (pos low) (negsuc (2 ^ 32 - 1 - low))
+
+abbrev pub f32Of : ℕ → Float
+f32Of b = ofBits binary32 (b % 2 ^ 32)
