@@ -196,6 +196,7 @@ fn outcome(x: u64, f: Lookup, from: u8, to: u8, rounding: u8, range: u8) -> Outc
         Lookup::Found(pattern) => Outcome::Stored(pattern),
         Lookup::Missing => element::convert_element(
             x,
+            element::class_of(from, to),
             from,
             to,
             kinds::row_of(from),

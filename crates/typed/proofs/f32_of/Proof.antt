@@ -11,14 +11,8 @@ returns : tie.Need-returns
 unfolding div ofBits
 returns c = nan-pattern (c .before .args .b % 2 ^ 32) (c .if1 .taken)
 
-cast-result : tie.Need-cast-result
-cast-result c = search needs
-
 float-from-bits-result : tie.Need-float-from-bits-result
 float-from-bits-result c = no-nan-pattern (c .before .args .b % 2 ^ 32) (c .if1 .left)
 
-returns-2 : tie.Need-returns-2
-returns-2 c = search needs
-
 pub f32-of-spec : {M : Type 1} → statement M
-f32-of-spec = tie.close (tie.spec returns cast-result float-from-bits-result returns-2)
+f32-of-spec = tie.close (tie.spec returns (λ c. search needs) float-from-bits-result (λ c. search needs))

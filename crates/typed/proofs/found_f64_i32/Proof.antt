@@ -9,9 +9,6 @@ use Rattle.typed.proofs.found_f64_i32.Tie as tie
 use Rattle.typed.specs.Typed.{i32Bits}
 use Rattle.typed.proofs.found_f64_i32.Statement.{statement}
 
-bits-i32-requires : tie.Need-bits-i32-requires
-bits-i32-requires c κs = search needs
-
 -- a signed field is read back from its bits as it was
 held : (c : tie.After-bits-i32) → toZ w32 (ofZ w32 (c .before .before .args .e .target)) ≡ c .before .before .args .e .target
 held c = search needs
@@ -20,4 +17,4 @@ returns : tie.Need-returns
 returns c = ap Found (c .bits-i32 .ensures ∙ ap i32Bits (held c))
 
 pub found-f64-i32-spec : {M : Type 1} → statement M
-found-f64-i32-spec = tie.close (tie.spec bits-i32-requires returns)
+found-f64-i32-spec = tie.close (tie.spec (λ c κs. search needs) returns)

@@ -5,17 +5,8 @@ use Rattle.typed.proofs.i32_of.Statement.{statement}
 use Rattle.typed.proofs.Signed.{upper, lower-fits, lower}
 use Rattle.typed.proofs.i32_of.Tie as tie
 
-cast-result : tie.Need-cast-result
-cast-result c = search needs
-
 returns : tie.Need-returns
 returns c = upper (c .before .args .b) (c .if1 .taken)
-
-sub-result : tie.Need-sub-result
-sub-result c = search needs
-
-cast-result-2 : tie.Need-cast-result-2
-cast-result-2 c = search needs
 
 sub-result-2 : tie.Need-sub-result-2
 sub-result-2 c = lower-fits (c .before .args .b) (c .if1 .left)
@@ -24,5 +15,4 @@ returns-2 : tie.Need-returns-2
 returns-2 c = lower (c .before .args .b) (c .if1 .left)
 
 pub i32-of-spec : {M : Type 1} → statement M
-i32-of-spec =
-    tie.close (tie.spec cast-result returns sub-result cast-result-2 sub-result-2 returns-2)
+i32-of-spec = tie.close (tie.spec (λ c. search needs) returns (λ c. search needs) (λ c. search needs) sub-result-2 returns-2)

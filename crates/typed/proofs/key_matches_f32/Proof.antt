@@ -11,9 +11,6 @@ use Rattle.typed.proofs.key_matches_f32.Tie as tie
 use Rattle.typed.proofs.key_matches_f32.Statement.{statement}
 use Rattle.typed.proofs.Patterns.{bits-below}
 
-bits-f32-requires : tie.Need-bits-f32-requires
-bits-f32-requires c κs = search needs
-
 matches-f32-requires : tie.Need-matches-f32-requires
 matches-f32-requires c κs = (c .before .pre, subst (λ (b : ℕ). b < 2 ^ 32) (sym (c .bits-f32 .ensures)) (bits-below binary32 (c .before .args .key)))
 
@@ -21,4 +18,4 @@ returns : tie.Need-returns
 returns c = c .matches-f32 .ensures ∙ ap (λ (b : ℕ). matches (valueOf f32 (c .before .before .args .x)) (valueOf f32 b)) (c .before .bits-f32 .ensures)
 
 pub key-matches-f32-spec : {M : Type 1} → statement M
-key-matches-f32-spec = tie.close (tie.spec bits-f32-requires matches-f32-requires returns)
+key-matches-f32-spec = tie.close (tie.spec (λ c κs. search needs) matches-f32-requires returns)

@@ -9,14 +9,8 @@ use Rattle.cast_spec.specs.Element.{matches}
 use Rattle.typed.proofs.key_matches_f64.Statement.{statement}
 use Rattle.typed.proofs.key_matches_f64.Tie as tie
 
-bits-f64-requires : tie.Need-bits-f64-requires
-bits-f64-requires c κs = search needs
-
-matches-f64-requires : tie.Need-matches-f64-requires
-matches-f64-requires c κs = search needs
-
 returns : tie.Need-returns
 returns c = c .matches-f64 .ensures ∙ ap (λ (b : ℕ). matches (valueOf f64 (c .before .before .args .x)) (valueOf f64 b)) (c .before .bits-f64 .ensures)
 
 pub key-matches-f64-spec : {M : Type 1} → statement M
-key-matches-f64-spec = tie.close (tie.spec bits-f64-requires matches-f64-requires returns)
+key-matches-f64-spec = tie.close (tie.spec (λ c κs. search needs) (λ c κs. search needs) returns)

@@ -11,9 +11,6 @@ use Rattle.typed.proofs.key_matches_i64.Statement.{statement}
 use Rattle.typed.proofs.Pairs.{i64-fits}
 use Rattle.typed.specs.Typed.{i64Bits}
 
-bits-i64-requires : tie.Need-bits-i64-requires
-bits-i64-requires c κs = search needs
-
 -- a signed number is read back from its bits as it was
 held : (c : tie.After-bits-i64) → toZ w64 (ofZ w64 (c .before .args .key)) ≡ c .before .args .key
 held c = search needs
@@ -22,4 +19,4 @@ returns : tie.Need-returns
 returns c = let t = c .before in ap (eqb (t .args .x)) (c .bits-i64 .ensures ∙ ap i64Bits (held c)) ∙ coded-integers-match 3 (t .args .x) (i64Bits (t .args .key)) (lit< tt) (t .pre) (i64-fits (t .args .key))
 
 pub key-matches-i64-spec : {M : Type 1} → statement M
-key-matches-i64-spec = tie.close (tie.spec bits-i64-requires returns)
+key-matches-i64-spec = tie.close (tie.spec (λ c κs. search needs) returns)

@@ -12,9 +12,6 @@ use Rattle.typed.proofs.matches_i64_f32.Tie as tie
 use Rattle.typed.specs.Typed.{i64Bits}
 use Rattle.typed.proofs.matches_i64_f32.Statement.{statement}
 
-key-matches-i64-requires : tie.Need-key-matches-i64-requires
-key-matches-i64-requires c κs = search needs
-
 -- a signed number is read back from its bits as it was
 held : (c : tie.After-key-matches-i64) → toZ w64 (ofZ w64 (c .before .before .args .e .key)) ≡ c .before .before .args .e .key
 held c = search needs
@@ -23,4 +20,4 @@ returns : tie.Need-returns
 returns c = c .key-matches-i64 .ensures ∙ ap (λ (z : ℤ). matches (valueOf (kindOf 3) (c .before .before .args .x)) (valueOf (kindOf 3) (i64Bits z))) (held c)
 
 pub matches-i64-f32-spec : {M : Type 1} → statement M
-matches-i64-f32-spec = tie.close (tie.spec key-matches-i64-requires returns)
+matches-i64-f32-spec = tie.close (tie.spec (λ c κs. search needs) returns)

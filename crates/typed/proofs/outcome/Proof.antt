@@ -8,43 +8,11 @@ use Rattle.typed.proofs.Parts.{unmatched}
 use Rattle.typed.proofs.outcome.Statement.{statement}
 use Rattle.typed.proofs.outcome.Tie as tie
 
-enum-known-f : tie.Need-enum-known-f
-enum-known-f c = search needs
-
-enum-told : tie.Need-enum-told
-enum-told c = search needs
-
-row-of-requires : tie.Need-row-of-requires
-row-of-requires c κs = search needs
-
-row-of-requires-2 : tie.Need-row-of-requires-2
-row-of-requires-2 c κs = search needs
-
-rounding-of-requires : tie.Need-rounding-of-requires
-rounding-of-requires c κs = search needs
-
-range-of-requires : tie.Need-range-of-requires
-range-of-requires c κs = search needs
-
-convert-element-requires : tie.Need-convert-element-requires
-convert-element-requires c κs = search needs
-
 returns : tie.Need-returns
 returns c = let a = c .before .before .before .args in ap (λ (f : Lookup). outcomeFor (a .from) (a .to) (a .x) f (a .rounding) (a .range)) (sym (c .before .f .given .1))
 
 returns-2 : tie.Need-returns-2
-returns-2 c = let a = c .before .before .before .before .before .before .before .args in c .convert-element .ensures ∙ unmatched (a .from) (a .to) (a .x) (a .rounding) (a .range) (a .f) (c .before .before .rounding-of .result) (c .before .range-of .result) (c .before .before .before .before .before .enum-told .given .1) (c .before .before .rounding-of .ensures) (c .before .range-of .ensures)
+returns-2 c = let a = c .before .before .before .before .before .before .before .before .args in c .convert-element .ensures ∙ unmatched (a .from) (a .to) (a .x) (a .rounding) (a .range) (a .f) (c .before .before .rounding-of .result) (c .before .range-of .result) (c .before .before .before .before .before .before .enum-told .given .1) (c .before .before .rounding-of .ensures) (c .before .range-of .ensures)
 
 pub outcome-spec : {M : Type 1} → statement M
-outcome-spec =
-    tie.close
-    (tie.spec
-    enum-known-f
-    enum-told
-    row-of-requires
-    row-of-requires-2
-    rounding-of-requires
-    range-of-requires
-    convert-element-requires
-    returns
-    returns-2)
+outcome-spec = tie.close (tie.spec (λ c. search needs) (λ c. search needs) (λ c κs. search needs) (λ c κs. search needs) (λ c κs. search needs) (λ c κs. search needs) (λ c κs. search needs) (λ c κs. search needs) returns returns-2)

@@ -6,14 +6,8 @@ use Rattle.typed.proofs.refuse.Tie as tie
 use Rattle.typed.specs.Loop.{stopped}
 use Rattle.typed.proofs.refuse.Statement.{statement}
 
-refusal-requires : tie.Need-refusal-requires
-refusal-requires c κs = search needs
-
-stop-requires : tie.Need-stop-requires
-stop-requires c κs = search needs
-
 returns : tie.Need-returns
 returns c = let a = c .before .before .args in c .stop .ensures ∙ ap (stopped (a .at)) (c .before .refusal .ensures)
 
 pub refuse-spec : {M : Type 1} → statement M
-refuse-spec = tie.close (tie.spec refusal-requires stop-requires returns)
+refuse-spec = tie.close (tie.spec (λ c κs. search needs) (λ c κs. search needs) returns)

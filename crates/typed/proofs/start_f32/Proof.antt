@@ -7,12 +7,6 @@ use Rattle.typed.specs.Typed.{f32Bits}
 use Rattle.typed.proofs.start_f32.Statement.{statement}
 use Rattle.typed.proofs.start_f32.Tie as tie
 
-check-requires : tie.Need-check-requires
-check-requires c κs = search needs
-
-state-f32-requires : tie.Need-state-f32-requires
-state-f32-requires c κs = search needs
-
 returns : tie.Need-returns
 returns c = let a = c .before .before .before .before .args in starts f32Bits (now (a .src)) (a .room) (a .rounding) (a .range) (c .before .before .check .result) (c .before .before .check .ensures) (c .before .if1 .taken) (c .state-f32 .result) (c .state-f32 .ensures)
 
@@ -20,4 +14,4 @@ returns-2 : tie.Need-returns-2
 returns-2 c = let a = c .before .before .before .args in refuses-start f32Bits (now (a .src)) (a .room) (a .rounding) (a .range) (c .before .check .result) (c .before .check .ensures) (c .if1 .left)
 
 pub start-f32-spec : {M : Type 1} → statement M
-start-f32-spec = tie.close (tie.spec check-requires state-f32-requires returns returns-2)
+start-f32-spec = tie.close (tie.spec (λ c κs. search needs) (λ c κs. search needs) returns returns-2)

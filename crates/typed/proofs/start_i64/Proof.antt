@@ -7,12 +7,6 @@ use Rattle.typed.proofs.start_i64.Statement.{statement}
 use Rattle.typed.specs.Typed.{i64Bits}
 use Rattle.typed.proofs.start_i64.Tie as tie
 
-check-requires : tie.Need-check-requires
-check-requires c κs = search needs
-
-state-i64-requires : tie.Need-state-i64-requires
-state-i64-requires c κs = search needs
-
 returns : tie.Need-returns
 returns c = let a = c .before .before .before .args in starts i64Bits (now (a .src)) (a .room) (a .rounding) (a .range) (c .before .before .check .result) (c .before .before .check .ensures) (c .before .if1 .taken) (c .state-i64 .result) (c .state-i64 .ensures)
 
@@ -20,4 +14,4 @@ returns-2 : tie.Need-returns-2
 returns-2 c = let a = c .before .before .args in refuses-start i64Bits (now (a .src)) (a .room) (a .rounding) (a .range) (c .before .check .result) (c .before .check .ensures) (c .if1 .left)
 
 pub start-i64-spec : {M : Type 1} → statement M
-start-i64-spec = tie.close (tie.spec check-requires state-i64-requires returns returns-2)
+start-i64-spec = tie.close (tie.spec (λ c κs. search needs) (λ c κs. search needs) returns returns-2)

@@ -8,31 +8,11 @@ use Rattle.typed.proofs.Parts.{within, past}
 use Rattle.typed.specs.Typed.{f32Bits}
 use Rattle.typed.proofs.state_f32.Tie as tie
 
-mul-bits-f32 : tie.Need-mul-bits-f32
-mul-bits-f32 c = search needs
-
-shared-slice-read-bits-f32 : tie.Need-shared-slice-read-bits-f32
-shared-slice-read-bits-f32 c = search needs
-
-bits-f32-requires : tie.Need-bits-f32-requires
-bits-f32-requires c κs = search needs
-
 returns : tie.Need-returns
 returns c = let a = c .before .before .before .before .args in within f32Bits (now (a .src)) (a .at) _ _ (c .before .before .if1 .taken) (c .bits-f32 .ensures)
-
-stop-requires : tie.Need-stop-requires
-stop-requires c κs = search needs
 
 returns-2 : tie.Need-returns-2
 returns-2 c = let a = c .before .before .before .args in c .stop .ensures ∙ past f32Bits (now (a .src)) (a .at) (c .before .if1 .left)
 
 pub state-f32-spec : {M : Type 1} → statement M
-state-f32-spec =
-    tie.close
-    (tie.spec
-    mul-bits-f32
-    shared-slice-read-bits-f32
-    bits-f32-requires
-    returns
-    stop-requires
-    returns-2)
+state-f32-spec = tie.close (tie.spec (λ c. search needs) (λ c. search needs) (λ c κs. search needs) returns (λ c κs. search needs) returns-2)

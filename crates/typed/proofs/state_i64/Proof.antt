@@ -12,31 +12,11 @@ use Rattle.typed.specs.Typed.{i64Bits}
 use Rattle.typed.proofs.Parts.{within, past}
 use Rattle.typed.proofs.state_i64.Statement.{statement}
 
-mul-bits-i64 : tie.Need-mul-bits-i64
-mul-bits-i64 c = search needs
-
-shared-slice-copy-out-bits-i64 : tie.Need-shared-slice-copy-out-bits-i64
-shared-slice-copy-out-bits-i64 c = search needs
-
-bits-i64-requires : tie.Need-bits-i64-requires
-bits-i64-requires c κs = search needs
-
 returns : tie.Need-returns
 returns c = let a = c .before .before .before .args in within i64Bits (now (a .src)) (a .at) _ (pos 0) (c .before .before .if1 .taken) (c .bits-i64 .ensures ∙ ap i64Bits (toZ-ofZ w64 (getD (now (a .src)) (a .at) (pos 0)) (record { sfits = c .before .bits-i64-arg .given })))
-
-stop-requires : tie.Need-stop-requires
-stop-requires c κs = search needs
 
 returns-2 : tie.Need-returns-2
 returns-2 c = let a = c .before .before .args in c .stop .ensures ∙ past i64Bits (now (a .src)) (a .at) (c .before .if1 .left)
 
 pub state-i64-spec : {M : Type 1} → statement M
-state-i64-spec =
-    tie.close
-    (tie.spec
-    mul-bits-i64
-    shared-slice-copy-out-bits-i64
-    bits-i64-requires
-    returns
-    stop-requires
-    returns-2)
+state-i64-spec = tie.close (tie.spec (λ c. search needs) (λ c. search needs) (λ c κs. search needs) returns (λ c κs. search needs) returns-2)

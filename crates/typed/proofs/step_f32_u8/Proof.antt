@@ -10,47 +10,11 @@ use Rattle.typed.specs.Loop.{outcomeFor, u8Of}
 use Rattle.typed.specs.Typed.{f32Bits}
 use Rattle.typed.proofs.step_f32_u8.Statement.{statement}
 
-outcome-requires : tie.Need-outcome-requires
-outcome-requires c κs = search needs
-
-enum-known-o : tie.Need-enum-known-o
-enum-known-o c = search needs
-
-u8-of-requires : tie.Need-u8-of-requires
-u8-of-requires c κs = search needs
-
-slice-write-dst : tie.Need-slice-write-dst
-slice-write-dst c = search needs
-
-add-state-f32 : tie.Need-add-state-f32
-add-state-f32 c = search needs
-
-state-f32-requires : tie.Need-state-f32-requires
-state-f32-requires c κs = search needs
-
-same-length : tie.Need-same-length
-same-length c = search needs
-
 returns : tie.Need-returns
 returns c = let a = c .before .before .before .before .before .before .before .before .args in stored u8Of (map f32Bits (now (a .src))) (now (a .dst)) (a .s .at) (outcomeFor 8 4 (a .s .x) (a .f) (a .rounding) (a .range)) _ (c .before .before .before .before .before .outcome .ensures) (c .state-f32 .result) (c .before .before .before .o .given .0 .0) (c .before .before .before .o .given .1) (c .before .u8-of .result) (c .before .u8-of .ensures) (c .state-f32 .ensures)
-
-refuse-requires : tie.Need-refuse-requires
-refuse-requires c κs = search needs
 
 returns-2 : tie.Need-returns-2
 returns-2 c = let a = c .before .before .before .before .before .args in refused u8Of (map f32Bits (now (a .src))) (now (a .dst)) (a .s .at) (outcomeFor 8 4 (a .s .x) (a .f) (a .rounding) (a .range)) (c .before .before .outcome .result) (c .before .before .outcome .ensures) (c .refuse .result) (refuses (c .before .before .outcome .result) (c .before .match .keys2)) (c .refuse .ensures)
 
 pub step-f32-u8-spec : {M : Type 1} → statement M
-step-f32-u8-spec =
-    tie.close
-    (tie.spec
-    outcome-requires
-    enum-known-o
-    u8-of-requires
-    slice-write-dst
-    add-state-f32
-    state-f32-requires
-    same-length
-    returns
-    refuse-requires
-    returns-2)
+step-f32-u8-spec = tie.close (tie.spec (λ c κs. search needs) (λ c. search needs) (λ c κs. search needs) (λ c. search needs) (λ c. search needs) (λ c κs. search needs) (λ c. search needs) returns (λ c κs. search needs) returns-2)

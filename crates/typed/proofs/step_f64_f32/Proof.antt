@@ -10,51 +10,11 @@ use Rattle.typed.specs.Typed.{f64Bits}
 use Rattle.typed.proofs.step_f64_f32.Statement.{statement}
 use Rattle.typed.proofs.step_f64_f32.Tie as tie
 
-outcome-requires : tie.Need-outcome-requires
-outcome-requires c κs = search needs
-
-enum-known-o : tie.Need-enum-known-o
-enum-known-o c = search needs
-
-f32-of-requires : tie.Need-f32-of-requires
-f32-of-requires c κs = search needs
-
-mul-dst : tie.Need-mul-dst
-mul-dst c = search needs
-
-slice-write-dst : tie.Need-slice-write-dst
-slice-write-dst c = search needs
-
-add-state-f64 : tie.Need-add-state-f64
-add-state-f64 c = search needs
-
-state-f64-requires : tie.Need-state-f64-requires
-state-f64-requires c κs = search needs
-
-same-length : tie.Need-same-length
-same-length c = search needs
-
 returns : tie.Need-returns
 returns c = let a = c .before .before .before .before .before .before .before .before .args in stored f32Of (map f64Bits (now (a .src))) (now (a .dst)) (a .s .at) (outcomeFor 9 8 (a .s .x) (a .f) (a .rounding) (a .range)) _ (c .before .before .before .before .before .outcome .ensures) (c .state-f64 .result) (c .before .before .before .o .given .0 .0) (c .before .before .before .o .given .1) (c .before .f32-of .result) (c .before .f32-of .ensures) (c .state-f64 .ensures)
-
-refuse-requires : tie.Need-refuse-requires
-refuse-requires c κs = search needs
 
 returns-2 : tie.Need-returns-2
 returns-2 c = let a = c .before .before .before .before .before .args in refused f32Of (map f64Bits (now (a .src))) (now (a .dst)) (a .s .at) (outcomeFor 9 8 (a .s .x) (a .f) (a .rounding) (a .range)) (c .before .before .outcome .result) (c .before .before .outcome .ensures) (c .refuse .result) (refuses (c .before .before .outcome .result) (c .before .match .keys2)) (c .refuse .ensures)
 
 pub step-f64-f32-spec : {M : Type 1} → statement M
-step-f64-f32-spec =
-    tie.close
-    (tie.spec
-    outcome-requires
-    enum-known-o
-    f32-of-requires
-    mul-dst
-    slice-write-dst
-    add-state-f64
-    state-f64-requires
-    same-length
-    returns
-    refuse-requires
-    returns-2)
+step-f64-f32-spec = tie.close (tie.spec (λ c κs. search needs) (λ c. search needs) (λ c κs. search needs) (λ c. search needs) (λ c. search needs) (λ c. search needs) (λ c κs. search needs) (λ c. search needs) returns (λ c κs. search needs) returns-2)

@@ -13,30 +13,6 @@ use Rattle.typed.specs.Typed.{f64Bits}
 use Rattle.typed.proofs.step_f64_i32.Statement.{statement}
 use Rattle.typed.proofs.step_f64_i32.Tie as tie
 
-outcome-requires : tie.Need-outcome-requires
-outcome-requires c κs = search needs
-
-enum-known-o : tie.Need-enum-known-o
-enum-known-o c = search needs
-
-i32-of-requires : tie.Need-i32-of-requires
-i32-of-requires c κs = search needs
-
-mul-t11 : tie.Need-mul-t11
-mul-t11 c = search needs
-
-slice-set-from-dst : tie.Need-slice-set-from-dst
-slice-set-from-dst c = search needs
-
-add-state-f64 : tie.Need-add-state-f64
-add-state-f64 c = search needs
-
-state-f64-requires : tie.Need-state-f64-requires
-state-f64-requires c κs = search needs
-
-same-length : tie.Need-same-length
-same-length c = search needs
-
 -- a signed number is read back from its bits as it was
 held : (c : tie.After-state-f64) → toZ w32 (ofZ w32 (c .before .i32-of .result)) ≡ c .before .i32-of .result
 held c = search needs
@@ -44,24 +20,8 @@ held c = search needs
 returns : tie.Need-returns
 returns c = let a = c .before .before .before .before .before .before .before .args in stored i32Of (map f64Bits (now (a .src))) (now (a .dst)) (a .s .at) (outcomeFor 9 2 (a .s .x) (a .f) (a .rounding) (a .range)) _ (c .before .before .before .before .before .outcome .ensures) (c .state-f64 .result) (c .before .before .before .o .given .0 .0) (c .before .before .before .o .given .1) _ (held c ∙ c .before .i32-of .ensures) (c .state-f64 .ensures)
 
-refuse-requires : tie.Need-refuse-requires
-refuse-requires c κs = search needs
-
 returns-2 : tie.Need-returns-2
 returns-2 c = let a = c .before .before .before .before .args in refused i32Of (map f64Bits (now (a .src))) (now (a .dst)) (a .s .at) (outcomeFor 9 2 (a .s .x) (a .f) (a .rounding) (a .range)) (c .before .before .outcome .result) (c .before .before .outcome .ensures) (c .refuse .result) (refuses (c .before .before .outcome .result) (c .before .match .keys2)) (c .refuse .ensures)
 
 pub step-f64-i32-spec : {M : Type 1} → statement M
-step-f64-i32-spec =
-    tie.close
-    (tie.spec
-    outcome-requires
-    enum-known-o
-    i32-of-requires
-    mul-t11
-    slice-set-from-dst
-    add-state-f64
-    state-f64-requires
-    same-length
-    returns
-    refuse-requires
-    returns-2)
+step-f64-i32-spec = tie.close (tie.spec (λ c κs. search needs) (λ c. search needs) (λ c κs. search needs) (λ c. search needs) (λ c. search needs) (λ c. search needs) (λ c κs. search needs) (λ c. search needs) returns (λ c κs. search needs) returns-2)
