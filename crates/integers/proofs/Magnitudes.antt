@@ -8,7 +8,7 @@ use native.Mathlib.Nat.{one-mul}
 use native.Mathlib.Omega.{arith}
 use lib.Dec.{leb, lit<}
 use lib.Pow.{pow-pos, pow-mono, shl-exact}
-use borrow.Author.Tests.{le-leb, lt-leb, leb-true, leb-false, not-true, not-false}
+use borrow.Author.Tests.{lt-leb, leb-true, leb-false}
 use Rattle.grid.specs.Round.{signed}
 use Rattle.grid.proofs.Neighbours.{pow-twice-pred}
 use Rattle.patterns.specs.Kind.{integer, highInt}
@@ -26,17 +26,9 @@ no-sign : (s : Bool) (n b : ℕ) → b < 2 ^ (n - 1) → negative (integer s n) 
 no-sign true n b h = lt-leb (2 ^ (n - 1)) b h
 no-sign false n b h = refl
 
-pub magnitude-of-unsigned : (n b : ℕ) → magnitudeOf (integer false n) b ≡ record { negative = false; magnitude = b }
-unfolding magnitudeOf
-magnitude-of-unsigned n b = refl
-
 pub magnitude-of-low : (s : Bool) (n b : ℕ) → b < 2 ^ (n - 1) → magnitudeOf (integer s n) b ≡ record { negative = false; magnitude = b }
 unfolding magnitudeOf
 magnitude-of-low s n b h = ap {B = Integer} (λ (t : Bool). record { negative = t; magnitude = cond t (2 ^ n - b) b }) (no-sign s n b h)
-
-pub magnitude-of-high : (n b : ℕ) → 2 ^ (n - 1) ≤ b → magnitudeOf (integer true n) b ≡ record { negative = true; magnitude = 2 ^ n - b }
-unfolding magnitudeOf
-magnitude-of-high n b h = ap {B = Integer} (λ (t : Bool). record { negative = t; magnitude = cond t (2 ^ n - b) b }) (le-leb (2 ^ (n - 1)) b h)
 
 -- zero is not negative
 pub zero-not-negative : (s : Bool) (n : ℕ) → magnitudeOf (integer s n) 0 ≡ record { negative = false; magnitude = 0 }
