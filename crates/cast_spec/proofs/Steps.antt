@@ -7,12 +7,14 @@ use Prim.Native.Nat.{ℕ}
 use lib.Dec.{T}
 use lib.IntN.{ℤ}
 use lib.Signed.{_≤ℤ_, leZ, leZ-yes}
+use Rattle.grid.specs.declared.RoundingMode.{RoundingMode}
 use Rattle.grid.specs.Round.{pick}
 use Rattle.grid.proofs.Int.{ints, →eq}
-use Rattle.patterns.specs.Kind.{Kind, gridOf, lowest, highest, InRange}
+use Rattle.patterns.specs.Kind.{Kind, integer, binary, gridOf, lowest, highest, InRange}
 use Rattle.patterns.specs.Value.{Value, nan, inf, num, negative, valueOf}
 use Rattle.cast_spec.specs.Element.{Entry, Settings, matches, inRange, ranged, converted, mapped, outcomeOf}
 use Rattle.patterns.specs.Pattern.{asF64}
+use Rattle.kinds.specs.declared.OutOfRangeMode.{OutOfRangeMode}
 use Rattle.kinds.specs.declared.Outcome.{Outcome}
 use Rattle.kinds.specs.declared.Outcome.the-variants.{Stored}
 
@@ -39,6 +41,15 @@ unfolding outcomeOf
 outcome-is S b x e h =
     ap {B = Outcome} (λ (v : Value). mapped (S .from) v (S .entries) (converted S b (S .to) v)) e
     ∙ no-match (S .from) x (S .entries) (converted S b (S .to) (num x)) h
+
+-- ---- a conversion does not look at the entries
+pub no-map : (from to : Kind) (rule : RoundingMode) (choice : OutOfRangeMode) (es : List Entry) (b : ℕ) (k : Kind) (v : Value)
+    → converted (record { from = from; to = to; rule = rule; range = choice; entries = [] }) b k v ≡ converted (record { from = from; to = to; rule = rule; range = choice; entries = es }) b k v
+no-map from to rule choice es b k (num x) = refl
+no-map from to rule choice es b (integer t n) (inf neg) = refl
+no-map from to rule choice es b (integer t n) nan = refl
+no-map from to rule choice es b (binary p w t) (inf neg) = refl
+no-map from to rule choice es b (binary p w t) nan = refl
 
 -- in the range or past it
 pub by-range : (F : Outcome → Type 0) (k : Kind) (y : ℤ) (a b : Outcome) → F (cond (inRange k y) a b) → (InRange k y → F a) × ((InRange k y → ⊥) → F b)

@@ -7,12 +7,12 @@ use Prim.Native.Nat.{ℕ, _+_, _^_, _≤_, _<_}
 use native.Mathlib.Nat.{le-of-eq, lt-of-lt-of-le}
 use native.Mathlib.Omega.{arith}
 use lib.ListN.{length}
-use Rattle.patterns.specs.Value.{Value, num, inf, nan, valueOf}
-use Rattle.cast_spec.specs.Element.{Entry, converted, outcomeOf}
+use Rattle.patterns.specs.Value.{valueOf}
+use Rattle.cast_spec.specs.Element.{converted, outcomeOf}
 use Rattle.chunk.specs.declared.Settings.{Settings}
 use Rattle.mapping.specs.declared.Lookup.the-variants.{Found, Missing}
 use Rattle.kinds.proofs.Outcome.{the-type}
-use Rattle.patterns.specs.Kind.{Kind, binary, bits, integer}
+use Rattle.patterns.specs.Kind.{bits}
 use Rattle.mapping.specs.declared.Lookup.{Lookup}
 use Rattle.mapping.specs.Map.{MapBytes, foundOr, lookupOf}
 use Rattle.kinds.specs.declared.Outcome.{Outcome}
@@ -25,6 +25,7 @@ use Rattle.cast_spec.specs.Chunk.{entriesFrom, width}
 use Rattle.kinds.specs.Codes.{kindOf}
 use Rattle.mapping.proofs.Entries.{mapped-by-lookup}
 use Rattle.element.specs.Convert.{unmapped}
+use Rattle.cast_spec.proofs.Steps.{no-map}
 use Rattle.cast_spec.proofs.Demand3.{kind-fits}
 use Rattle.cast_spec.specs.Demand3.{Refuses}
 use denote.Enum.Declared.{tagOf}
@@ -70,17 +71,9 @@ module _ (s : Settings) (keys targets : List ℕ) (ready : Ready s keys targets)
     pub found-outcome : (r : Lookup) (t : ℕ) → r ≡ lookedUp s keys targets b → r ≡ Found t → Stored t ≡ outcomeOf (settingsFor s keys targets) b
     found-outcome r t e f = sym (by-lookup r e ∙ ap (λ (l : Lookup). foundOr l (converted (settingsFor s keys targets) b (kindOf (s .to)) (valueOf (kindOf (s .from)) b))) f)
 
-    -- a conversion does not look at the entries
-    no-map : (es : List Entry) (k : Kind) (v : Value) → converted (record { from = kindOf (s .from); to = kindOf (s .to); rule = s .rounding; range = s .range; entries = [] }) b k v ≡ converted (record { from = kindOf (s .from); to = kindOf (s .to); rule = s .rounding; range = s .range; entries = es }) b k v
-    no-map es k (num x) = refl
-    no-map es (integer t n) (inf neg) = refl
-    no-map es (integer t n) nan = refl
-    no-map es (binary p w t) (inf neg) = refl
-    no-map es (binary p w t) nan = refl
-
     pub missing-outcome : (r : Lookup) (o : Outcome) → r ≡ lookedUp s keys targets b → r ≡ Missing → o ≡ unmapped (kindOf (s .from)) (kindOf (s .to)) (s .rounding) (s .range) b → o ≡ outcomeOf (settingsFor s keys targets) b
     missing-outcome r o e f g =
-        g ∙ no-map (settingsFor s keys targets .entries) (kindOf (s .to)) (valueOf (kindOf (s .from)) b)
+        g ∙ no-map (kindOf (s .from)) (kindOf (s .to)) (s .rounding) (s .range) (settingsFor s keys targets .entries) b (kindOf (s .to)) (valueOf (kindOf (s .from)) b)
         ∙ sym (by-lookup r e ∙ ap (λ (l : Lookup). foundOr l (converted (settingsFor s keys targets) b (kindOf (s .to)) (valueOf (kindOf (s .from)) b))) f)
 
 -- ---- an outcome that is not `Stored`, as a program tells it: by the number of its variant

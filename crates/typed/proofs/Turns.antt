@@ -1,6 +1,6 @@
 -- The loop of a typed entry keeps the definitions' account of the rest, and ends with the chunk call's contract. For any two kinds, any entries and any type of the destination's elements.
 -- Assumes nothing.
-use mathlib.Core.List.{List, [], _++_, map}
+use mathlib.Core.List.{List, _++_, map}
 use mathlib.Core.Bool.{Bool, true, false, cond, _&&_, true≢false}
 use mathlib.Core.Path.{_≡_, refl, sym, ap, ap₂, subst, _∙_}
 use Prim.Native.Nat.{ℕ, suc, _+_, _-_, _*_, _/_, _%_, _^_, _≤_, _<_}
@@ -10,11 +10,9 @@ use native.Mathlib.Numerals.{add-one}
 use lib.ListN.{length, getD, take, drop, set, length-set, length-map}
 use lib.Dec.{T, ltb, eqb}
 use borrow.Author.Tests.{lt-ltb, eq-eqb, ltb-true, ltb-false, eqb-true, eqb-false}
-use Rattle.grid.specs.declared.RoundingMode.{RoundingMode}
 use Rattle.bytes_le.specs.Bytes.{toLe}
-use Rattle.patterns.specs.Kind.{Kind, integer, binary, bits}
-use Rattle.patterns.specs.Value.{Value, nan, inf, num, valueOf}
-use Rattle.kinds.specs.declared.OutOfRangeMode.{OutOfRangeMode}
+use Rattle.patterns.specs.Kind.{bits}
+use Rattle.patterns.specs.Value.{valueOf}
 use Rattle.kinds.specs.declared.Answer.{Answer}
 use Rattle.kinds.specs.declared.Outcome.{Outcome}
 use Rattle.kinds.specs.declared.Outcome.the-variants.{Stored, NanOrInf, OutOfRange, FloatOutOfRange}
@@ -24,6 +22,7 @@ use Rattle.mapping.proofs.Entries.{mapped-by-lookup}
 use Rattle.mapping.specs.Map.{lookupOf, foundOr}
 use Rattle.mapping.specs.declared.Lookup.{Lookup}
 use Rattle.cast_spec.specs.Demand3.{Contract, Refuses}
+use Rattle.cast_spec.proofs.Steps.{no-map}
 use Rattle.cast_spec.proofs.Demand3.{contract, kind-fits, answer-is, destination-is}
 use Rattle.cast_spec.specs.Element.{Entry, Settings, converted, outcomeOf}
 use Rattle.cast_spec.specs.Chunk.{Inputs, width, settingsOf, codesListed, mapWhole, bytesWhole, callOf, outcomeAt, answerNext, answerFrom, answerOf, bytesFrom, destinationOf, entriesFrom}
@@ -33,15 +32,6 @@ use Rattle.typed.specs.Loop.{going, stopped, stateAt, startOf, outcomeFo
 use Rattle.typed.specs.Typed.{bytesOf, typedInputs}
 use Rattle.typed.specs.declared.State.{State}
 use Rattle.typed.proofs.Places.{map-set, mapped-below, entry-below, some-element, length-bytes, pattern-at, set-bytes, entries-back}
-
--- ---- a conversion does not look at the entries
-no-map : (from to : Kind) (rule : RoundingMode) (choice : OutOfRangeMode) (es : List Entry) (b : ℕ) (k : Kind) (v : Value)
-    → converted (record { from = from; to = to; rule = rule; range = choice; entries = [] }) b k v ≡ converted (record { from = from; to = to; rule = rule; range = choice; entries = es }) b k v
-no-map from to rule choice es b k (num x) = refl
-no-map from to rule choice es b (integer t n) (inf neg) = refl
-no-map from to rule choice es b (integer t n) nan = refl
-no-map from to rule choice es b (binary p w t) (inf neg) = refl
-no-map from to rule choice es b (binary p w t) nan = refl
 
 -- ---- whole elements
 whole : (n l w : ℕ) → 0 < w → l ≡ n * w → (l / w ≡ n) × (l % w ≡ 0)
