@@ -13,7 +13,7 @@ use typed::EntryF64U8;
 use typed::EntryI64F32;
 
 // The four fields of an answer.
-fn fields(a: Answer) -> [u64; 4]
+pub fn fields(a: Answer) -> [u64; 4]
     ensures { λ r. ⌜ r ≡ fieldsOf a ⌝ }
 {
     match a {
