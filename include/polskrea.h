@@ -93,6 +93,64 @@ uint8_t polskrea_convert(const uint8_t *src, size_t src_len,
                          uint8_t from, uint8_t to, uint8_t rounding, uint8_t range,
                          uint64_t answer[4]);
 
+/*
+ * Typed entries: slices of numbers in place of bytes, and one slice of map entries. Same steps, same numbers, same four words as
+ * polskrea_convert on the elements' bytes. Every length counts ELEMENTS. They cannot answer 2 or 3.
+ *
+ * A NaN's own bits play no part: as the value of refusal 5 every NaN is 0x7ff8000000000000, and which NaN pattern a NaN in `dst` has is free.
+ *
+ * The caller's side is that of polskrea_convert, and each pointer is aligned for its type where its length is not 0.
+ */
+typedef struct {
+    double key;
+    uint8_t target;
+} polskrea_entry_f64_u8;
+
+typedef struct {
+    double key;
+    int32_t target;
+} polskrea_entry_f64_i32;
+
+typedef struct {
+    float key;
+    uint8_t target;
+} polskrea_entry_f32_u8;
+
+typedef struct {
+    double key;
+    float target;
+} polskrea_entry_f64_f32;
+
+typedef struct {
+    int64_t key;
+    float target;
+} polskrea_entry_i64_f32;
+
+uint8_t polskrea_convert_f64_to_u8(const double *src, size_t src_len,
+                                   uint8_t *dst, size_t dst_len,
+                                   const polskrea_entry_f64_u8 *entries, size_t entries_len,
+                                   uint8_t rounding, uint8_t range, uint64_t answer[4]);
+
+uint8_t polskrea_convert_f64_to_i32(const double *src, size_t src_len,
+                                    int32_t *dst, size_t dst_len,
+                                    const polskrea_entry_f64_i32 *entries, size_t entries_len,
+                                    uint8_t rounding, uint8_t range, uint64_t answer[4]);
+
+uint8_t polskrea_convert_f32_to_u8(const float *src, size_t src_len,
+                                   uint8_t *dst, size_t dst_len,
+                                   const polskrea_entry_f32_u8 *entries, size_t entries_len,
+                                   uint8_t rounding, uint8_t range, uint64_t answer[4]);
+
+uint8_t polskrea_convert_f64_to_f32(const double *src, size_t src_len,
+                                    float *dst, size_t dst_len,
+                                    const polskrea_entry_f64_f32 *entries, size_t entries_len,
+                                    uint8_t rounding, uint8_t range, uint64_t answer[4]);
+
+uint8_t polskrea_convert_i64_to_f32(const int64_t *src, size_t src_len,
+                                    float *dst, size_t dst_len,
+                                    const polskrea_entry_i64_f32 *entries, size_t entries_len,
+                                    uint8_t rounding, uint8_t range, uint64_t answer[4]);
+
 /* The version of this interface: 1, for 0.1. */
 #define POLSKREA_VERSION 1
 uint32_t polskrea_version(void);

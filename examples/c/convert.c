@@ -1,4 +1,4 @@
-/* Converts 2.5 and 300 from f64 to u8, first with no range choice and then clamped, and prints each answer. */
+/* Converts 2.5 and 300 from f64 to u8, first with no range choice and then clamped, and by the typed entries, and prints each answer. */
 #include <inttypes.h>
 #include <stdio.h>
 #include <string.h>
@@ -77,5 +77,18 @@ int main(void)
     number = polskrea_convert((const uint8_t *)&large, sizeof large, single, sizeof single, NULL, 0, NULL, 0,
                               POLSKREA_F64, POLSKREA_F32, POLSKREA_NEAREST_EVEN, POLSKREA_NONE, answer);
     show("1e300 to f32", number, answer, single, sizeof single);
+
+    /* the same elements through the typed entry, with a typed map */
+    const polskrea_entry_f64_u8 entries[1] = {{300.0, 7}};
+    dst[0] = dst[1] = 0xee;
+    number = polskrea_convert_f64_to_u8(src, 2, dst, 2, NULL, 0, POLSKREA_NEAREST_EVEN, POLSKREA_NONE, answer);
+    show("typed none", number, answer, dst, sizeof dst);
+    number = polskrea_convert_f64_to_u8(src, 2, dst, 2, entries, 1, POLSKREA_NEAREST_AWAY, POLSKREA_NONE, answer);
+    show("typed map", number, answer, dst, sizeof dst);
+    const polskrea_entry_f64_f32 wide[2] = {{0.0, -1.0f}, {2.5, 1e30f}};
+    const double three[3] = {-0.0, 2.5, 1e300};
+    float out[3] = {0.0f, 0.0f, 0.0f};
+    number = polskrea_convert_f64_to_f32(three, 3, out, 3, wide, 2, POLSKREA_NEAREST_EVEN, POLSKREA_NONE, answer);
+    show("typed f32", number, answer, (const uint8_t *)out, sizeof out);
     return 0;
 }

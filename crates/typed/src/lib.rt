@@ -71,7 +71,7 @@ pub type ThreeEntryI64F32 = [EntryI64F32; 3];
 // ---- patterns
 
 // The pattern of an f64. The language gives a NaN no bits: each stands as the quiet NaN.
-fn bits_f64(x: f64) -> u64
+pub fn bits_f64(x: f64) -> u64
     ensures { λ r. ⌜ r ≡ f64Bits x ⌝ }
 {
     if x != x {
@@ -81,7 +81,7 @@ fn bits_f64(x: f64) -> u64
 }
 
 // The pattern of an f32, likewise.
-fn bits_f32(x: f32) -> u64
+pub fn bits_f32(x: f32) -> u64
     ensures { λ r. ⌜ r ≡ f32Bits x ⌝ }
 {
     if x != x {
@@ -101,7 +101,7 @@ pub fn bits_i64(z: i64) -> u64
 }
 
 // The 32 bits of a signed number, two's complement.
-fn bits_i32(z: i32) -> u64
+pub fn bits_i32(z: i32) -> u64
     ensures { λ r. ⌜ r ≡ i32Bits z ⌝ }
 {
     if z < 0 {
@@ -111,7 +111,7 @@ fn bits_i32(z: i32) -> u64
 }
 
 // The eight bits of a u8.
-fn bits_u8(x: u8) -> u64
+pub fn bits_u8(x: u8) -> u64
     ensures { λ r. ⌜ r ≡ u8Bits x ⌝ }
 {
     x as u64

@@ -25,6 +25,65 @@ extern "C" {
     fn polskrea_version() -> u32;
 }
 
+/// A map entry of a typed call: the key's and the target's own types.
+#[derive(Debug, Clone, Copy, PartialEq)]
+#[repr(C)]
+pub struct Entry<K, T> {
+    /// What an element is compared with.
+    pub key: K,
+    /// What is stored for an element that equals the key.
+    pub target: T,
+}
+
+/// A typed entry of the library, and its safe wrapper.
+macro_rules! typed {
+    ($name:ident, $entry:ident, $source:ty, $target:ty) => {
+        extern "C" {
+            fn $entry(
+                src: *const $source,
+                src_len: usize,
+                dst: *mut $target,
+                dst_len: usize,
+                entries: *const Entry<$source, $target>,
+                entries_len: usize,
+                rounding: u8,
+                range: u8,
+                answer: *mut [u64; 4],
+            ) -> u8;
+        }
+
+        /// [`convert`] on slices of numbers. A NaN's own bits play no part: a refused one has the value `f64::NAN`, and which NaN is stored is free.
+        ///
+        /// # Errors
+        ///
+        /// The first refusal, 4 to 7. Refusal 4 leaves `dst` as it was; 5 to 7 leave it so from the refused element on.
+        pub fn $name(src: &[$source], dst: &mut [$target], entries: &[Entry<$source, $target>], rounding: RoundingMode, range: OutOfRangeMode) -> Result<(), CastError> {
+            let mut answer = [0u64; 4];
+            // SAFETY: each pointer and length is a slice's, the two that are written are `&mut`, and nothing is kept.
+            let number = unsafe {
+                $entry(
+                    src.as_ptr(),
+                    src.len(),
+                    dst.as_mut_ptr(),
+                    dst.len(),
+                    entries.as_ptr(),
+                    entries.len(),
+                    rounding as u8,
+                    range as u8,
+                    &mut answer,
+                )
+            };
+            answered(number, answer)
+        }
+    };
+}
+
+typed!(convert_f64_to_u8, polskrea_convert_f64_to_u8, f64, u8);
+typed!(convert_f64_to_i32, polskrea_convert_f64_to_i32, f64, i32);
+typed!(convert_f32_to_u8, polskrea_convert_f32_to_u8, f32, u8);
+typed!(convert_f64_to_f32, polskrea_convert_f64_to_f32, f64, f32);
+typed!(convert_i64_to_f32, polskrea_convert_i64_to_f32, i64, f32);
+
 /// A number kind. Elements are bytes, lowest first.
 #[derive(Debug, Clone, Copy, PartialEq, Eq)]
 #[repr(u8)]
@@ -199,6 +258,11 @@ pub fn convert_codes(src: &[u8], dst: &mut [u8], map: Map<'_>, from: u8, to: u8,
             &mut answer,
         )
     };
+    answered(number, answer)
+}
+
+/// The number and the four words of a call.
+fn answered(number: u8, answer: [u64; 4]) -> Result<(), CastError> {
     let [a, b, c, d] = answer;
     let value = f64::from_bits(b);
     Err(match number {

@@ -1,18 +1,18 @@
 -- `polskrea::fields` meets its contract: each arm has its answer's words.
 -- Assumes nothing.
-use mathlib.Core.Path.{_≡_, sym, ap, _∙_}
 use mathlib.Core.List.{[], _∷_}
+use mathlib.Core.Path.{_≡_, sym, ap, _∙_}
 use Prim.Native.Nat.{ℕ}
-use mir.Syntax.{w64}
 use mir.Val.{toZ, ofZ}
+use mir.Syntax.{w64}
+use borrow.Author.Needs.{needs}
 use Rattle.patterns.specs.Pattern.{lowBits}
 use Rattle.polskrea.specs.Entry.{fieldsOf}
-use borrow.Author.Needs.{needs}
-use Rattle.polskrea.proofs.fields.Statement.{statement}
 use Rattle.polskrea.proofs.fields.Tie as tie
+use Rattle.polskrea.proofs.fields.Statement.{statement}
 
 -- a signed field is read back from its bits as it was
-low-back : (c : tie.After-two-complement) → toZ w64 (ofZ w64 (c .before .before .a3 .given .0 .1 .1 .0)) ≡ c .before .before .a3 .given .0 .1 .1 .0
+low-back : (c : tie.After-bits-i64) → toZ w64 (ofZ w64 (c .before .before .a3 .given .0 .1 .1 .0)) ≡ c .before .before .a3 .given .0 .1 .1 .0
 low-back c = search needs
 
 returns-5 : tie.Need-returns-5
@@ -24,7 +24,7 @@ returns-6 c = ap fieldsOf (sym (c .before .a2 .given .1))
 returns-7 : tie.Need-returns-7
 returns-7 c =
     let v = c .before .before .a3 .given .0 in
-    ap (λ (n : ℕ). v .0 ∷ v .1 .0 ∷ n ∷ v .1 .1 .1 .0 ∷ []) (c .two-complement .ensures ∙ ap (lowBits 64) (low-back c)) ∙ ap fieldsOf (sym (c .before .before .a3 .given .1))
+    ap (λ (n : ℕ). v .0 ∷ v .1 .0 ∷ n ∷ v .1 .1 .1 .0 ∷ []) (c .bits-i64 .ensures ∙ ap (lowBits 64) (low-back c)) ∙ ap fieldsOf (sym (c .before .before .a3 .given .1))
 
 returns-8 : tie.Need-returns-8
 returns-8 c = ap fieldsOf (sym (c .before .a4 .given .1))
