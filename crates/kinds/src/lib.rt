@@ -205,6 +205,27 @@ pub fn row_of(code: u8) -> KindRow
     KINDS[code as usize]
 }
 
+// The row of u8. Where the code is known, nothing of the table is left in the machine code.
+pub fn row_u8() -> KindRow
+    ensures { λ r. ⌜ r ≡ rowOf (kindOf 4) ⌝ }
+{
+    KINDS[4]
+}
+
+// The row of i32.
+pub fn row_i32() -> KindRow
+    ensures { λ r. ⌜ r ≡ rowOf (kindOf 2) ⌝ }
+{
+    KINDS[2]
+}
+
+// The row of i64.
+pub fn row_i64() -> KindRow
+    ensures { λ r. ⌜ r ≡ rowOf (kindOf 3) ⌝ }
+{
+    KINDS[3]
+}
+
 // The rounding rule of a code; the codes 0 to 4 are listed.
 pub fn rounding_of(code: u8) -> RoundingMode
     ensures { λ r. ⌜ r ≡ roundingOf code ⌝ }

@@ -1,16 +1,9 @@
-// The library's entries for C and for Rust: the chunk call over bytes, the typed entries, and the version.
+// The library's entries for C and for Rust: the chunk call over bytes, and the version.
 ghost use mathlib.Core.Path.{_≡_};
-ghost use mathlib.Core.List.{map};
 ghost use Rattle.cast_spec.specs.Chunk.{inputs};
 ghost use Rattle.kinds.specs.Answer.{numberOf};
-ghost use Rattle.typed.specs.Typed.{f64Bits, f32Bits, i64Bits, u8Bits, i32Bits, f64U8, f64I32, f32U8, f64F32, i64F32, typedInputs, bytesOf};
 ghost use Rattle.polskrea.specs.Entry.{fieldsOf, Converted, version};
 use kinds::Answer;
-use typed::Entry;
-use typed::EntryF32U8;
-use typed::EntryF64I32;
-use typed::EntryF64U8;
-use typed::EntryI64F32;
 
 // The fields of an answer, which an exported call leaves as four numbers.
 pub type Fields = [u64; 4];
@@ -42,7 +35,7 @@ pub fn fields(a: Answer) -> Fields
 }
 
 // Leaves an answer's fields in `answer`, and returns its number.
-fn answered(a: Answer, answer: &mut Fields) -> u8
+pub fn answered(a: Answer, answer: &mut Fields) -> u8
     ensures { λ r. ⌜ (r ≡ numberOf a) × (now (answer .exit) ≡ fieldsOf a) ⌝ }
 {
     *answer = fields(a);
@@ -65,86 +58,6 @@ pub extern "C" fn polskrea_convert(
     ensures { λ r. ⌜ Converted (inputs (now (src .entry)) (now (dst .entry)) (now (keys .entry)) (now (targets .entry)) from to rounding range) r (now (answer .exit)) (now (dst .exit)) ⌝ }
 {
     let a = chunk::convert(src, dst, keys, targets, from, to, rounding, range);
-    answered(a, answer)
-}
-
-// Converts f64 elements to u8 with a slice of entries, likewise.
-#[no_mangle]
-pub extern "C" fn polskrea_convert_f64_to_u8(
-    src: &[f64],
-    dst: &mut [u8],
-    entries: &[EntryF64U8],
-    rounding: u8,
-    range: u8,
-    answer: &mut Fields,
-) -> u8
-    ensures { λ r. ⌜ Converted (typedInputs 9 4 (map f64Bits (now (src .entry))) (map u8Bits (now (dst .entry))) (map f64U8 (now (entries .entry))) rounding range) r (now (answer .exit)) (bytesOf 1 (map u8Bits (now (dst .exit)))) ⌝ }
-{
-    let a = typed::convert_f64_to_u8(src, dst, entries, rounding, range);
-    answered(a, answer)
-}
-
-// Converts f64 elements to i32 with a slice of entries, likewise.
-#[no_mangle]
-pub extern "C" fn polskrea_convert_f64_to_i32(
-    src: &[f64],
-    dst: &mut [i32],
-    entries: &[EntryF64I32],
-    rounding: u8,
-    range: u8,
-    answer: &mut Fields,
-) -> u8
-    ensures { λ r. ⌜ Converted (typedInputs 9 2 (map f64Bits (now (src .entry))) (map i32Bits (now (dst .entry))) (map f64I32 (now (entries .entry))) rounding range) r (now (answer .exit)) (bytesOf 4 (map i32Bits (now (dst .exit)))) ⌝ }
-{
-    let a = typed::convert_f64_to_i32(src, dst, entries, rounding, range);
-    answered(a, answer)
-}
-
-// Converts f32 elements to u8 with a slice of entries, likewise.
-#[no_mangle]
-pub extern "C" fn polskrea_convert_f32_to_u8(
-    src: &[f32],
-    dst: &mut [u8],
-    entries: &[EntryF32U8],
-    rounding: u8,
-    range: u8,
-    answer: &mut Fields,
-) -> u8
-    ensures { λ r. ⌜ Converted (typedInputs 8 4 (map f32Bits (now (src .entry))) (map u8Bits (now (dst .entry))) (map f32U8 (now (entries .entry))) rounding range) r (now (answer .exit)) (bytesOf 1 (map u8Bits (now (dst .exit)))) ⌝ }
-{
-    let a = typed::convert_f32_to_u8(src, dst, entries, rounding, range);
-    answered(a, answer)
-}
-
-// Converts f64 elements to f32 with a slice of entries, likewise.
-#[no_mangle]
-pub extern "C" fn polskrea_convert_f64_to_f32(
-    src: &[f64],
-    dst: &mut [f32],
-    entries: &[Entry],
-    rounding: u8,
-    range: u8,
-    answer: &mut Fields,
-) -> u8
-    ensures { λ r. ⌜ Converted (typedInputs 9 8 (map f64Bits (now (src .entry))) (map f32Bits (now (dst .entry))) (map f64F32 (now (entries .entry))) rounding range) r (now (answer .exit)) (bytesOf 4 (map f32Bits (now (dst .exit)))) ⌝ }
-{
-    let a = typed::convert_f64_to_f32(src, dst, entries, rounding, range);
-    answered(a, answer)
-}
-
-// Converts i64 elements to f32 with a slice of entries, likewise.
-#[no_mangle]
-pub extern "C" fn polskrea_convert_i64_to_f32(
-    src: &[i64],
-    dst: &mut [f32],
-    entries: &[EntryI64F32],
-    rounding: u8,
-    range: u8,
-    answer: &mut Fields,
-) -> u8
-    ensures { λ r. ⌜ Converted (typedInputs 3 8 (map i64Bits (now (src .entry))) (map f32Bits (now (dst .entry))) (map i64F32 (now (entries .entry))) rounding range) r (now (answer .exit)) (bytesOf 4 (map f32Bits (now (dst .exit)))) ⌝ }
-{
-    let a = typed::convert_i64_to_f32(src, dst, entries, rounding, range);
     answered(a, answer)
 }
 

@@ -7,11 +7,13 @@ ghost use Rattle.patterns.specs.Value.{valueOf};
 ghost use Rattle.kinds.specs.Codes.{kindOf};
 ghost use Rattle.cast_spec.specs.Chunk.{answerNext};
 ghost use Rattle.cast_spec.specs.Element.{matches};
-ghost use Rattle.element.specs.Convert.{ElementPattern};
+ghost use Rattle.kinds.specs.Row.{rowOf};
+ghost use Rattle.element.specs.Convert.{FloatPattern};
 ghost use Rattle.mapping.specs.Map.{lookupOf};
 ghost use Rattle.typed.specs.Typed.{f64Bits, f32Bits, i64Bits, u8Bits, i32Bits, f64U8, f64I32, f32U8, f64F32, i64F32, TypedContract};
 ghost use Rattle.typed.specs.Loop.{checkOf, stateAt, startOf, stopped, outcomeFor, nextState, storedIn, u8Of, i32Of, f32Of};
 use kinds::Answer;
+use kinds::KindRow;
 use kinds::Outcome;
 use mapping::Lookup;
 
@@ -187,23 +189,57 @@ fn check(n: usize, m: usize, rounding: u8, range: u8) -> State
     }
 }
 
-// One element's steps: the target that was found, or the conversion of the pattern x.
-fn outcome(x: u64, f: Lookup, from: u8, to: u8, rounding: u8, range: u8) -> Outcome
-    requires { ⌜ ElementPattern x from × (to < 10) ⌝ }
+// One element's steps from a float to an integer kind: the target that was found, or the conversion of the pattern x.
+fn outcome_float_to_int(
+    x: u64,
+    f: Lookup,
+    from: u8,
+    to: u8,
+    target: KindRow,
+    rounding: u8,
+    range: u8,
+) -> Outcome
+    requires { ⌜ FloatPattern x from × (to < 8) × (target ≡ rowOf (kindOf to)) ⌝ }
     ensures { λ r. ⌜ r ≡ outcomeFor from to x f rounding range ⌝ }
 {
     match f {
         Lookup::Found(pattern) => Outcome::Stored(pattern),
-        Lookup::Missing => element::convert_element(
+        Lookup::Missing => element::convert_float_to_int(
             x,
-            element::class_of(from, to),
             from,
-            to,
-            kinds::row_of(from),
-            kinds::row_of(to),
+            target,
             kinds::rounding_of(rounding),
             kinds::range_of(range),
         ),
+    }
+}
+
+// Those of an f64 to f32.
+fn outcome_f64_to_f32(x: u64, f: Lookup, rounding: u8, range: u8) -> Outcome
+    ensures { λ r. ⌜ r ≡ outcomeFor 9 8 x f rounding range ⌝ }
+{
+    match f {
+        Lookup::Found(pattern) => Outcome::Stored(pattern),
+        Lookup::Missing => element::convert_float_to_float(
+            x,
+            9,
+            8,
+            kinds::rounding_of(rounding),
+            kinds::range_of(range),
+        ),
+    }
+}
+
+// Those of an i64 to f32; no range choice matters.
+fn outcome_i64_to_f32(x: u64, f: Lookup, rounding: u8, range: u8) -> Outcome
+    ensures { λ r. ⌜ r ≡ outcomeFor 3 8 x f rounding range ⌝ }
+{
+    match f {
+        Lookup::Found(pattern) => Outcome::Stored(pattern),
+        Lookup::Missing => {
+            let row = kinds::row_i64();
+            element::convert_int_to_float(x, row, 8, kinds::rounding_of(rounding))
+        }
     }
 }
 
@@ -367,7 +403,7 @@ fn step_f64_u8(src: &[f64], dst: &mut [u8], s: State, f: Lookup, rounding: u8, r
     ensures { λ r. ⌜ (r ≡ nextState (outcomeFor 9 4 (s .x) f rounding range) (map f64Bits (now (src .entry))) (s .at)) × (now (dst .exit) ≡ storedIn u8Of (outcomeFor 9 4 (s .x) f rounding range) (now (dst .entry)) (s .at)) ⌝ }
 {
     let at = s.at;
-    let o = outcome(s.x, f, 9, 4, rounding, range);
+    let o = outcome_float_to_int(s.x, f, 9, 4, kinds::row_u8(), rounding, range);
     if let Outcome::Stored(pattern) = o {
         dst[at] = u8_of(pattern);
         return state_f64(src, at + 1);
@@ -445,7 +481,7 @@ fn step_f64_i32(src: &[f64], dst: &mut [i32], s: State, f: Lookup, rounding: u8,
     ensures { λ r. ⌜ (r ≡ nextState (outcomeFor 9 2 (s .x) f rounding range) (map f64Bits (now (src .entry))) (s .at)) × (now (dst .exit) ≡ storedIn i32Of (outcomeFor 9 2 (s .x) f rounding range) (now (dst .entry)) (s .at)) ⌝ }
 {
     let at = s.at;
-    let o = outcome(s.x, f, 9, 2, rounding, range);
+    let o = outcome_float_to_int(s.x, f, 9, 2, kinds::row_i32(), rounding, range);
     if let Outcome::Stored(pattern) = o {
         dst[at] = i32_of(pattern);
         return state_f64(src, at + 1);
@@ -523,7 +559,7 @@ fn step_f32_u8(src: &[f32], dst: &mut [u8], s: State, f: Lookup, rounding: u8, r
     ensures { λ r. ⌜ (r ≡ nextState (outcomeFor 8 4 (s .x) f rounding range) (map f32Bits (now (src .entry))) (s .at)) × (now (dst .exit) ≡ storedIn u8Of (outcomeFor 8 4 (s .x) f rounding range) (now (dst .entry)) (s .at)) ⌝ }
 {
     let at = s.at;
-    let o = outcome(s.x, f, 8, 4, rounding, range);
+    let o = outcome_float_to_int(s.x, f, 8, 4, kinds::row_u8(), rounding, range);
     if let Outcome::Stored(pattern) = o {
         dst[at] = u8_of(pattern);
         return state_f32(src, at + 1);
@@ -601,7 +637,7 @@ fn step_f64_f32(src: &[f64], dst: &mut [f32], s: State, f: Lookup, rounding: u8,
     ensures { λ r. ⌜ (r ≡ nextState (outcomeFor 9 8 (s .x) f rounding range) (map f64Bits (now (src .entry))) (s .at)) × (now (dst .exit) ≡ storedIn f32Of (outcomeFor 9 8 (s .x) f rounding range) (now (dst .entry)) (s .at)) ⌝ }
 {
     let at = s.at;
-    let o = outcome(s.x, f, 9, 8, rounding, range);
+    let o = outcome_f64_to_f32(s.x, f, rounding, range);
     if let Outcome::Stored(pattern) = o {
         dst[at] = f32_of(pattern);
         return state_f64(src, at + 1);
@@ -679,7 +715,7 @@ fn step_i64_f32(src: &[i64], dst: &mut [f32], s: State, f: Lookup, rounding: u8,
     ensures { λ r. ⌜ (r ≡ nextState (outcomeFor 3 8 (s .x) f rounding range) (map i64Bits (now (src .entry))) (s .at)) × (now (dst .exit) ≡ storedIn f32Of (outcomeFor 3 8 (s .x) f rounding range) (now (dst .entry)) (s .at)) ⌝ }
 {
     let at = s.at;
-    let o = outcome(s.x, f, 3, 8, rounding, range);
+    let o = outcome_i64_to_f32(s.x, f, rounding, range);
     if let Outcome::Stored(pattern) = o {
         dst[at] = f32_of(pattern);
         return state_i64(src, at + 1);

@@ -11,10 +11,10 @@ use Rattle.typed.specs.Typed.{f64Bits}
 use Rattle.typed.proofs.step_f64_u8.Statement.{statement}
 
 returns : tie.Need-returns
-returns c = let a = c .before .before .before .before .before .before .before .before .args in stored u8Of (map f64Bits (now (a .src))) (now (a .dst)) (a .s .at) (outcomeFor 9 4 (a .s .x) (a .f) (a .rounding) (a .range)) _ (c .before .before .before .before .before .outcome .ensures) (c .state-f64 .result) (c .before .before .before .o .given .0 .0) (c .before .before .before .o .given .1) (c .before .u8-of .result) (c .before .u8-of .ensures) (c .state-f64 .ensures)
+returns c = let a = c .before .before .before .before .before .before .before .before .before .args in stored u8Of (map f64Bits (now (a .src))) (now (a .dst)) (a .s .at) (outcomeFor 9 4 (a .s .x) (a .f) (a .rounding) (a .range)) _ (c .before .before .before .before .before .outcome-float-to-int .ensures) (c .state-f64 .result) (c .before .before .before .o .given .0 .0) (c .before .before .before .o .given .1) (c .before .u8-of .result) (c .before .u8-of .ensures) (c .state-f64 .ensures)
 
 returns-2 : tie.Need-returns-2
-returns-2 c = let a = c .before .before .before .before .before .args in refused u8Of (map f64Bits (now (a .src))) (now (a .dst)) (a .s .at) (outcomeFor 9 4 (a .s .x) (a .f) (a .rounding) (a .range)) (c .before .before .outcome .result) (c .before .before .outcome .ensures) (c .refuse .result) (refuses (c .before .before .outcome .result) (c .before .match .keys2)) (c .refuse .ensures)
+returns-2 c = let a = c .before .before .before .before .before .before .args in refused u8Of (map f64Bits (now (a .src))) (now (a .dst)) (a .s .at) (outcomeFor 9 4 (a .s .x) (a .f) (a .rounding) (a .range)) (c .before .before .outcome-float-to-int .result) (c .before .before .outcome-float-to-int .ensures) (c .refuse .result) (refuses (c .before .before .outcome-float-to-int .result) (c .before .match .keys2)) (c .refuse .ensures)
 
 pub step-f64-u8-spec : {M : Type 1} → statement M
-step-f64-u8-spec = tie.close (tie.spec (λ c κs. search needs) (λ c. search needs) (λ c κs. search needs) (λ c. search needs) (λ c. search needs) (λ c κs. search needs) (λ c. search needs) returns (λ c κs. search needs) returns-2)
+step-f64-u8-spec = tie.close (tie.spec (λ c κs. search needs) (λ c κs. search needs) (λ c. search needs) (λ c κs. search needs) (λ c. search needs) (λ c. search needs) (λ c κs. search needs) (λ c. search needs) returns (λ c κs. search needs) returns-2)

@@ -11,10 +11,10 @@ use Rattle.typed.specs.Typed.{i64Bits}
 use Rattle.typed.proofs.step_i64_f32.Tie as tie
 
 returns : tie.Need-returns
-returns c = let a = c .before .before .before .before .before .before .before .args in stored f32Of (map i64Bits (now (a .src))) (now (a .dst)) (a .s .at) (outcomeFor 3 8 (a .s .x) (a .f) (a .rounding) (a .range)) _ (c .before .before .before .before .before .outcome .ensures) (c .state-i64 .result) (c .before .before .before .o .given .0 .0) (c .before .before .before .o .given .1) (c .before .f32-of .result) (c .before .f32-of .ensures) (c .state-i64 .ensures)
+returns c = let a = c .before .before .before .before .before .before .before .args in stored f32Of (map i64Bits (now (a .src))) (now (a .dst)) (a .s .at) (outcomeFor 3 8 (a .s .x) (a .f) (a .rounding) (a .range)) _ (c .before .before .before .before .before .outcome-i64-to-f32 .ensures) (c .state-i64 .result) (c .before .before .before .o .given .0 .0) (c .before .before .before .o .given .1) (c .before .f32-of .result) (c .before .f32-of .ensures) (c .state-i64 .ensures)
 
 returns-2 : tie.Need-returns-2
-returns-2 c = let a = c .before .before .before .before .args in refused f32Of (map i64Bits (now (a .src))) (now (a .dst)) (a .s .at) (outcomeFor 3 8 (a .s .x) (a .f) (a .rounding) (a .range)) (c .before .before .outcome .result) (c .before .before .outcome .ensures) (c .refuse .result) (refuses (c .before .before .outcome .result) (c .before .match .keys2)) (c .refuse .ensures)
+returns-2 c = let a = c .before .before .before .before .args in refused f32Of (map i64Bits (now (a .src))) (now (a .dst)) (a .s .at) (outcomeFor 3 8 (a .s .x) (a .f) (a .rounding) (a .range)) (c .before .before .outcome-i64-to-f32 .result) (c .before .before .outcome-i64-to-f32 .ensures) (c .refuse .result) (refuses (c .before .before .outcome-i64-to-f32 .result) (c .before .match .keys2)) (c .refuse .ensures)
 
 pub step-i64-f32-spec : {M : Type 1} → statement M
 step-i64-f32-spec = tie.close (tie.spec (λ c κs. search needs) (λ c. search needs) (λ c κs. search needs) (λ c. search needs) (λ c. search needs) (λ c. search needs) (λ c κs. search needs) (λ c. search needs) returns (λ c κs. search needs) returns-2)

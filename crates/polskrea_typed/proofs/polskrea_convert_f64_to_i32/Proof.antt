@@ -1,4 +1,4 @@
--- `polskrea::polskrea_convert_f64_to_i32` meets its contract: the exported entry of every pair, at this pair's types.
+-- `polskrea_typed::polskrea_convert_f64_to_i32` meets its contract: the exported entry of every pair, at this pair's types.
 -- Assumes nothing.
 use contract.Running.{givenOf, tables, tablesOf}
 use denote.Triple.Spec.{tripleOf}
@@ -6,13 +6,13 @@ use denote.Triple.Table.{entered, cited}
 use Rattle.typed.proofs.convert_f64_to_i32.Symbol as convert
 use Rattle.typed.proofs.convert_f64_to_i32.Met as convert-thm
 use Rattle.typed.proofs.Pairs.{f64-to-i32}
-use Rattle.polskrea.proofs.polskrea_convert_f64_to_i32.Statement as stated
-use Rattle.polskrea.proofs.polskrea_convert_f64_to_i32 as export
+use Rattle.polskrea_typed.proofs.polskrea_convert_f64_to_i32.Statement as stated
+use Rattle.polskrea_typed.proofs.polskrea_convert_f64_to_i32 as export
 use Rattle.polskrea.proofs.answered.Symbol as answered
-use Rattle.polskrea.proofs.polskrea_convert_f64_to_i32.Code as code
+use Rattle.polskrea_typed.proofs.polskrea_convert_f64_to_i32.Code as code
 use Rattle.polskrea.proofs.answered.Met as answered-thm
-use Rattle.polskrea.proofs.polskrea_convert_f64_to_i32.Key.{name}
-use Rattle.polskrea.proofs.Exports.{Convert, Answered, meets}
+use Rattle.polskrea_typed.proofs.polskrea_convert_f64_to_i32.Key.{name}
+use Rattle.polskrea_typed.proofs.Exports.{Convert, Answered, meets}
 
 pub polskrea-convert-f64-to-i32-spec : {M : Type 1} → stated.statement M
 unfolding code.routine tablesOf
