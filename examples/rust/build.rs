@@ -1,4 +1,4 @@
-//! Tells the linker where libpolskrea.a stands: in POLSKREA_LIB_DIR, or where `rt staticlib polskrea` puts it.
+//! Tells the linker where libpolskrea.a and libpolskrea_typed.a stand: in POLSKREA_LIB_DIR, or where `rt staticlib` puts them.
 use std::env;
 use std::path::PathBuf;
 
@@ -8,7 +8,9 @@ fn main() {
         Some(folder) => PathBuf::from(folder),
         None => PathBuf::from(env::var_os("CARGO_MANIFEST_DIR").unwrap()).join("../../target/staticlib"),
     };
-    println!("cargo:rerun-if-changed={}", folder.join("libpolskrea.a").display());
+    for library in ["polskrea", "polskrea_typed"] {
+        println!("cargo:rerun-if-changed={}", folder.join(format!("lib{library}.a")).display());
+        println!("cargo:rustc-link-lib=static={library}");
+    }
     println!("cargo:rustc-link-search=native={}", folder.display());
-    println!("cargo:rustc-link-lib=static=polskrea");
 }

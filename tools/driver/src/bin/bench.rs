@@ -1,5 +1,5 @@
-//! Times the original's scalar route, its slice functions over typed slices, and ours, the byte route of the proved library, in one run.
-//! Prints ns per element, the best of several repeats, and the ratio.
+//! Times the original's scalar route, its slice functions over typed slices, and ours, the byte route of the proved library and its typed
+//! entries, in one run. Prints ns per element, the best of several repeats, and the ratio.
 use driver::samples::Random;
 use driver::{entries, ours, range_of, rounding_of, width, Element, Settings, KINDS, RANGES, RULES};
 use original::{
@@ -88,6 +88,77 @@ fn proved(row: &Row, repeats: usize) -> f64 {
         let a = ours(black_box(row.s), black_box(&row.src), black_box(&mut dst), &row.keys, &row.targets);
         assert_eq!(a.number, 0, "nothing is refused");
     })
+}
+
+/// A map entry of a typed call.
+#[repr(C)]
+struct Typed<S, D> {
+    key: S,
+    target: D,
+}
+
+macro_rules! typed {
+    ($name:ident, $entry:ident, $src:ty, $dst:ty) => {
+        extern "C" {
+            fn $entry(
+                src: *const $src,
+                src_len: usize,
+                dst: *mut $dst,
+                dst_len: usize,
+                entries: *const Typed<$src, $dst>,
+                entries_len: usize,
+                rounding: u8,
+                range: u8,
+                answer: *mut [u64; 4],
+            ) -> u8;
+        }
+
+        fn $name(row: &Row, repeats: usize) -> f64 {
+            let src: Vec<$src> = row.src.chunks_exact(<$src>::SIZE).map(<$src>::read).collect();
+            let zero = [0u8; 8];
+            let mut dst: Vec<$dst> = vec![<$dst>::read(&zero[..<$dst>::SIZE]); src.len()];
+            let keys = row.keys.chunks_exact(<$src>::SIZE).map(<$src>::read);
+            let targets = row.targets.chunks_exact(<$dst>::SIZE).map(<$dst>::read);
+            let entries: Vec<Typed<$src, $dst>> = keys.zip(targets).map(|(key, target)| Typed { key, target }).collect();
+            let mut answer = [0u64; 4];
+            best(repeats, || {
+                let (src, dst) = (black_box(&src), black_box(&mut dst));
+                // SAFETY: each pointer is good for its length, and nothing overlaps.
+                let number = unsafe {
+                    $entry(
+                        src.as_ptr(),
+                        src.len(),
+                        dst.as_mut_ptr(),
+                        dst.len(),
+                        entries.as_ptr(),
+                        entries.len(),
+                        row.s.rounding,
+                        row.s.range,
+                        &mut answer,
+                    )
+                };
+                assert_eq!(number, 0, "nothing is refused");
+            })
+        }
+    };
+}
+
+typed!(f64_u8, polskrea_convert_f64_to_u8, f64, u8);
+typed!(f64_i32, polskrea_convert_f64_to_i32, f64, i32);
+typed!(f32_u8, polskrea_convert_f32_to_u8, f32, u8);
+typed!(f64_f32, polskrea_convert_f64_to_f32, f64, f32);
+typed!(i64_f32, polskrea_convert_i64_to_f32, i64, f32);
+
+/// The typed entry of two kinds, where there is one.
+fn typed_entry(from: u8, to: u8) -> Option<Original> {
+    match (from, to) {
+        (9, 4) => Some(f64_u8),
+        (9, 2) => Some(f64_i32),
+        (8, 4) => Some(f32_u8),
+        (9, 8) => Some(f64_f32),
+        (3, 8) => Some(i64_f32),
+        _ => None,
+    }
 }
 
 /// n elements of a kind, each by `make`.
@@ -186,9 +257,9 @@ fn rows(n: usize) -> Vec<(Row, Original)> {
 
 fn main() {
     let repeats: usize = std::env::args().nth(1).map_or(15, |a| a.parse().expect("a number of repeats"));
-    println!("ns per element, best of {repeats} repeats; ratio is ours to the original's");
-    println!("| conversion | data | original 4,096 | ours 4,096 | ratio | original 1,000,000 | ours 1,000,000 | ratio |");
-    println!("|---|---|---|---|---|---|---|---|");
+    println!("ns per element, best of {repeats} repeats; ratio is ours to the original's; typed is the typed entry, where there is one");
+    println!("| conversion | data | original 4,096 | ours 4,096 | ratio | typed 4,096 | original 1,000,000 | ours 1,000,000 | ratio | typed 1,000,000 |");
+    println!("|---|---|---|---|---|---|---|---|---|---|");
     for ((small, original), (large, _)) in rows(4096).into_iter().zip(rows(1_000_000)) {
         let s = small.s;
         print!(
@@ -198,12 +269,16 @@ fn main() {
         for row in [&small, &large] {
             let n = row.src.len() as f64 / width(s.from) as f64;
             // both in turn, so that what else the machine does falls on both
-            let (mut a, mut b) = (f64::MAX, f64::MAX);
+            let (mut a, mut b, mut c) = (f64::MAX, f64::MAX, f64::MAX);
             for _ in 0..3 {
                 a = a.min(original(row, repeats.div_ceil(3)));
                 b = b.min(proved(row, repeats.div_ceil(3)));
+                if let Some(typed) = typed_entry(s.from, s.to) {
+                    c = c.min(typed(row, repeats.div_ceil(3)));
+                }
             }
-            print!(" {:.2} | {:.2} | {:.2} |", a / n * 1e9, b / n * 1e9, b / a);
+            let typed = typed_entry(s.from, s.to).map_or(String::new(), |_| format!("{:.2} ", c / n * 1e9));
+            print!(" {:.2} | {:.2} | {:.2} | {typed}|", a / n * 1e9, b / n * 1e9, b / a);
         }
         println!();
     }
