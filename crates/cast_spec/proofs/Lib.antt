@@ -7,3 +7,4 @@ pub mod Demand1
 pub mod Strength
 pub mod Witness
 pub mod Sentences
+pub mod NanBits

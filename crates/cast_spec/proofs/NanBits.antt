@@ -1,0 +1,363 @@
+-- A NaN's own bits decide nothing but which NaN comes out.
+-- Assumes nothing.
+use mathlib.Core.Path.{_≡_, refl, sym, ap, ap₂, subst, _∙_}
+use mathlib.Core.Logic.{_⊎_, inl, inr}
+use mathlib.Core.Bool.{Bool, true, false, _&&_, cond}
+use mathlib.Core.List.{List, _++_}
+use Prim.Native.Nat.{ℕ, zero, suc, _+_, _-_, _*_, _/_, _%_, _^_, _≤_, _<_}
+use native.Mathlib.Nat.{mod-lt, mod-mod, zero-add, div-add-mod'}
+use native.Mathlib.Omega.{arith}
+use lib.Dec.{T, ltb, eqb, eqb→eq, lit<, lit≤}
+use lib.ListN.{length, take, drop, length-append, length-drop}
+use lib.Pow.{pow-pos, mod-mod-pow}
+use lib.Seq.{drop-drop}
+use Rattle.grid.specs.Round.{signed}
+use Rattle.grid.specs.declared.RoundingMode.{RoundingMode}
+use Rattle.bytes_le.specs.Bytes.{fromLe, toLe, patternAt}
+use Rattle.bytes_le.proofs.Places.{first-place, next-place}
+use Rattle.bytes_le.proofs.Sums.{length-toLe}
+use Rattle.patterns.specs.Float.{bitsMag, infBits}
+use Rattle.patterns.specs.Kind.{Kind, integer, binary, f32, f64, bits}
+use Rattle.patterns.specs.Value.{Value, nan, inf, num, negative, floatValue, valueOf}
+use Rattle.patterns.specs.Pattern.{quiet, nanPattern, asF64, asF64From}
+use Rattle.patterns.proofs.Floats.{nan-back}
+use Rattle.kinds.specs.Codes.{kindOf, roundingOf, rangeOf}
+use Rattle.kinds.specs.declared.OutOfRangeMode.{OutOfRangeMode}
+use Rattle.kinds.specs.declared.Outcome.{Outcome}
+use Rattle.kinds.specs.declared.Outcome.the-variants.{Stored, NanOrInf, OutOfRange, FloatOutOfRange}
+use Rattle.kinds.specs.declared.Answer.{Answer}
+use Rattle.kinds.specs.declared.Answer.the-variants as A
+use Rattle.cast_spec.specs.Element.{Entry, Settings, matches, mapped, converted, outcomeOf}
+use Rattle.cast_spec.specs.Chunk.{Inputs, inputs, entriesFrom, sw, dw, settingsOf, codesListed, mapWhole, bytesWhole, countsMeet, callOf, outcomeAt, answerNext, answerFrom, answerOf, bytesNext, bytesFrom, destinationOf}
+use Rattle.cast_spec.specs.Demand3.{Contract}
+use Rattle.cast_spec.specs.NanBits.{Alike, AlikeBytes, AlikeInputs, SameAnswer, SameButNans}
+use Rattle.cast_spec.proofs.Demand3.{kind-fits}
+use Rattle.cast_spec.proofs.Steps.{no-map}
+
+-- ---- a NaN is one by the bits below its sign
+any-sign : (p w s : ℕ) (neg neg′ : Bool) (x : ℕ) → floatValue p w s neg x ≡ nan → floatValue p w s neg′ x ≡ nan
+any-sign p w s neg neg′ x = go (ltb x (infBits p w)) (eqb x (infBits p w))
+  where
+    go : (c d : Bool) → cond c (num (signed neg (bitsMag p s x))) (cond d (inf neg) nan) ≡ nan → cond c (num (signed neg′ (bitsMag p s x))) (cond d (inf neg′) nan) ≡ nan
+    go true d e = let z : _≡_ {A = ℕ} 0 1 = cc in absurd (omega arith)
+    go false true e = let z : _≡_ {A = ℕ} 0 1 = cc in absurd (omega arith)
+    go false false e = refl
+
+no-integer-nan : (s : Bool) (n b : ℕ) → valueOf (integer s n) b ≡ nan → ⊥
+unfolding valueOf
+no-integer-nan s n b e = let z : _≡_ {A = ℕ} 0 1 = cc in omega arith
+
+below-top : (b n : ℕ) → b % 2 ^ n % 2 ^ (n - 1) ≡ b % 2 ^ (n - 1)
+below-top b zero = mod-mod b 1
+below-top b (suc m) =
+    let e : suc m - 1 ≡ m = omega arith in
+    let f : suc m ≡ 1 + m = omega arith in
+    ap₂ (λ (x y : ℕ). b % 2 ^ x % 2 ^ y) f e ∙ mod-mod-pow b 1 m ∙ ap (λ (y : ℕ). b % 2 ^ y) (sym e)
+
+low-nan : (k : Kind) (b : ℕ) → valueOf k b ≡ nan → valueOf k (b % 2 ^ bits k) ≡ nan
+unfolding valueOf
+low-nan (integer s n) b e = absurd (no-integer-nan s n b e)
+low-nan (binary p w s) b e =
+    ap (floatValue p w s (negative (binary p w s) (b % 2 ^ (w + p)))) (below-top b (w + p))
+    ∙ any-sign p w s (negative (binary p w s) b) (negative (binary p w s) (b % 2 ^ (w + p))) (b % 2 ^ (w + p - 1)) e
+
+low-alike : (k : Kind) (a b : ℕ) → Alike k a b → Alike k (a % 2 ^ bits k) (b % 2 ^ bits k)
+low-alike k a b (inl e) = inl (ap (λ (z : ℕ). z % 2 ^ bits k) e)
+low-alike k a b (inr h) = inr (low-nan k a (h .0), low-nan k b (h .1))
+
+same-value : (k : Kind) (a b : ℕ) → Alike k a b → valueOf k a ≡ valueOf k b
+same-value k a b (inl e) = ap (valueOf k) e
+same-value k a b (inr h) = h .0 ∙ sym (h .1)
+
+-- ---- a NaN stays one on its way to another kind, and as f64
+abbrev NanStep : Kind → Kind → ℕ → Type 0
+NanStep (integer s n) from b = valueOf f64 (nanPattern from 53 11 b) ≡ nan
+NanStep (binary p w s) from b = valueOf (binary p w s) (nanPattern from p w b) ≡ nan
+
+module _ (p p′ b : ℕ) (two : 2 ≤ p′) where
+  quiet-some : 0 < quiet p p′ b
+  quiet-some = let h = pow-pos (p′ - 2) in omega arith
+
+  quiet-room : quiet p p′ b < 2 ^ (p′ - 1)
+  quiet-room =
+      let h = mod-lt (b % 2 ^ (p - 1) * 2 ^ (p′ - 1) / 2 ^ (p - 1)) (pow-pos (p′ - 2)) in
+      let e : 2 ^ (p′ - 1) ≡ 2 ^ (p′ - 2) + 2 ^ (p′ - 2) = twice p′ two in omega arith
+    where
+      twice : (q : ℕ) → 2 ≤ q → 2 ^ (q - 1) ≡ 2 ^ (q - 2) + 2 ^ (q - 2)
+      twice zero h = absurd (omega arith)
+      twice (suc zero) h = absurd (omega arith)
+      twice (suc (suc q)) h =
+          let e : suc (suc q) - 1 ≡ suc q = omega arith in
+          let f : suc (suc q) - 2 ≡ q = omega arith in
+          ap (λ (z : ℕ). 2 ^ z) e ∙ omega arith ∙ ap (λ (z : ℕ). 2 ^ z + 2 ^ z) (sym f)
+
+f32-to-f64 : (b : ℕ) → valueOf f64 (nanPattern f32 53 11 b) ≡ nan
+unfolding nanPattern
+f32-to-f64 b = nan-back 53 11 0 (lit≤ tt) (lit< tt) (negative f32 b) (quiet 24 53 b) (quiet-some 24 53 b (lit≤ tt)) (quiet-room 24 53 b (lit≤ tt))
+
+f64-to-f32 : (b : ℕ) → valueOf f32 (nanPattern f64 24 8 b) ≡ nan
+unfolding nanPattern
+f64-to-f32 b = nan-back 24 8 925 (lit≤ tt) (lit< tt) (negative f64 b) (quiet 53 24 b) (quiet-some 53 24 b (lit≤ tt)) (quiet-room 53 24 b (lit≤ tt))
+
+by-kind : (F : Kind → Type 0) (c : ℕ) → ((s : Bool) (n : ℕ) → F (integer s n)) → F f32 → F f64 → F (kindOf c)
+by-kind F c i a b = go (ltb c 4) (ltb c 8) (eqb c 8)
+  where
+    go : (x y z : Bool) → F (cond x (integer true (8 * 2 ^ c)) (cond y (integer false (8 * 2 ^ (c - 4))) (cond z f32 f64)))
+    go true y z = i true (8 * 2 ^ c)
+    go false true z = i false (8 * 2 ^ (c - 4))
+    go false false true = a
+    go false false false = b
+
+nan-step : (from to b : ℕ) → valueOf (kindOf from) b ≡ nan → NanStep (kindOf to) (kindOf from) b
+unfolding nanPattern
+nan-step from to b = by-kind (λ (k : Kind). valueOf k b ≡ nan → NanStep (kindOf to) k b) from
+    (λ s n h. absurd (no-integer-nan s n b h))
+    (λ h. by-kind (λ (k : Kind). NanStep k f32 b) to (λ s n. f32-to-f64 b) h (f32-to-f64 b))
+    (λ h. by-kind (λ (k : Kind). NanStep k f64 b) to (λ s n. h) (f64-to-f32 b) h)
+
+-- ---- one element
+pub record StoredNans (k : Kind) (o o′ : Outcome) : Type 0 where
+  pub b : ℕ
+  pub b′ : ℕ
+  pub first : o ≡ Stored b
+  pub second : o′ ≡ Stored b′
+  pub nans : (valueOf k b ≡ nan) × (valueOf k b′ ≡ nan)
+
+pub record RefusedNans (o o′ : Outcome) : Type 0 where
+  pub v : ℕ
+  pub v′ : ℕ
+  pub first : o ≡ NanOrInf v
+  pub second : o′ ≡ NanOrInf v′
+  pub nans : (valueOf f64 v ≡ nan) × (valueOf f64 v′ ≡ nan)
+
+abbrev Outcomes : Kind → Outcome → Outcome → Type 0
+Outcomes k o o′ = (o ≡ o′) ⊎ (StoredNans k o o′ ⊎ RefusedNans o o′)
+
+stored-alike : (k : Kind) (a b : ℕ) → Alike k a b → Outcomes k (Stored a) (Stored b)
+stored-alike k a b (inl e) = inl (ap Stored e)
+stored-alike k a b (inr h) = inr (inl (record { b = a; b′ = b; first = refl; second = refl; nans = h }))
+
+module _ (from to : ℕ) (rule : RoundingMode) (choice : OutOfRangeMode) where
+  abbrev S : List Entry → Settings
+  S es = record { from = kindOf from; to = kindOf to; rule = rule; range = choice; entries = es }
+
+  nan-outcome : (es es′ : List Entry) (a b : ℕ) → valueOf (kindOf from) a ≡ nan → valueOf (kindOf from) b ≡ nan → (k : Kind) → NanStep k (kindOf from) a → NanStep k (kindOf from) b → Outcomes k (converted (S es) a k nan) (converted (S es′) b k nan)
+  nan-outcome es es′ a b h l (integer s n) u v = inr (inr (record { v = asF64 (kindOf from) a; v′ = asF64 (kindOf from) b; first = refl; second = refl; nans = (ap (λ (x : Value). valueOf f64 (asF64From (kindOf from) a x)) h ∙ u, ap (λ (x : Value). valueOf f64 (asF64From (kindOf from) b x)) l ∙ v) }))
+  nan-outcome es es′ a b h l (binary p w s) u v = inr (inl (record { b = nanPattern (kindOf from) p w a; b′ = nanPattern (kindOf from) p w b; first = refl; second = refl; nans = (u, v) }))
+
+  converted-alike : (es es′ : List Entry) (a b : ℕ) → Alike (kindOf from) a b → Outcomes (kindOf to) (converted (S es) a (kindOf to) (valueOf (kindOf from) a)) (converted (S es′) b (kindOf to) (valueOf (kindOf from) b))
+  converted-alike es es′ a b (inl e) = inl (
+      sym (no-map (kindOf from) (kindOf to) rule choice es a (kindOf to) (valueOf (kindOf from) a))
+      ∙ no-map (kindOf from) (kindOf to) rule choice es′ a (kindOf to) (valueOf (kindOf from) a)
+      ∙ ap (λ (z : ℕ). converted (S es′) z (kindOf to) (valueOf (kindOf from) z)) e)
+  converted-alike es es′ a b (inr h) = subst (λ (x : Value). Outcomes (kindOf to) (converted (S es) a (kindOf to) x) (converted (S es′) b (kindOf to) (valueOf (kindOf from) b))) (sym (h .0))
+      (subst (λ (x : Value). Outcomes (kindOf to) (converted (S es) a (kindOf to) nan) (converted (S es′) b (kindOf to) x)) (sym (h .1))
+      (nan-outcome es es′ a b (h .0) (h .1) (kindOf to) (nan-step from to a (h .0)) (nan-step from to b (h .1))))
+
+  -- the map, n entries from the position j on
+  module _ (sw dw : ℕ) (ks ts ks′ ts′ : List ℕ) where
+    mapped-alike : (n j : ℕ) → ((i : ℕ) → i < j + n → Alike (kindOf from) (patternAt sw ks i) (patternAt sw ks′ i)) → ((i : ℕ) → i < j + n → Alike (kindOf to) (patternAt dw ts i) (patternAt dw ts′ i))
+        → (v : Value) (o o′ : Outcome) → Outcomes (kindOf to) o o′ → Outcomes (kindOf to) (mapped (kindOf from) v (entriesFrom sw dw ks ts j n) o) (mapped (kindOf from) v (entriesFrom sw dw ks′ ts′ j n) o′)
+    mapped-alike zero j hk ht v o o′ h = h
+    mapped-alike (suc n) j hk ht v o o′ h =
+        let l : j < j + suc n = omega arith in
+        subst (λ (x : Value). Outcomes (kindOf to) (cond (matches v (valueOf (kindOf from) (patternAt sw ks j))) (Stored (patternAt dw ts j)) (mapped (kindOf from) v (entriesFrom sw dw ks ts (suc j) n) o)) (cond (matches v x) (Stored (patternAt dw ts′ j)) (mapped (kindOf from) v (entriesFrom sw dw ks′ ts′ (suc j) n) o′)))
+        (same-value (kindOf from) (patternAt sw ks j) (patternAt sw ks′ j) (hk j l))
+        (go (matches v (valueOf (kindOf from) (patternAt sw ks j))) (stored-alike (kindOf to) (patternAt dw ts j) (patternAt dw ts′ j) (ht j l)) (mapped-alike n (suc j) (λ i m. hk i (omega arith)) (λ i m. ht i (omega arith)) v o o′ h))
+      where
+        go : (t : Bool) {a b c d : Outcome} → Outcomes (kindOf to) a b → Outcomes (kindOf to) c d → Outcomes (kindOf to) (cond t a c) (cond t b d)
+        go true x y = x
+        go false x y = y
+
+    pub outcome-alike : (n a b : ℕ) → ((i : ℕ) → i < n → Alike (kindOf from) (patternAt sw ks i) (patternAt sw ks′ i)) → ((i : ℕ) → i < n → Alike (kindOf to) (patternAt dw ts i) (patternAt dw ts′ i)) → Alike (kindOf from) a b
+        → Outcomes (kindOf to) (outcomeOf (S (entriesFrom sw dw ks ts 0 n)) a) (outcomeOf (S (entriesFrom sw dw ks′ ts′ 0 n)) b)
+    unfolding outcomeOf
+    outcome-alike n a b hk ht h =
+        subst (λ (x : Value). Outcomes (kindOf to) (mapped (kindOf from) (valueOf (kindOf from) a) (entriesFrom sw dw ks ts 0 n) (converted (S (entriesFrom sw dw ks ts 0 n)) a (kindOf to) (valueOf (kindOf from) a))) (mapped (kindOf from) x (entriesFrom sw dw ks′ ts′ 0 n) (converted (S (entriesFrom sw dw ks′ ts′ 0 n)) b (kindOf to) (valueOf (kindOf from) b))))
+        (same-value (kindOf from) a b h)
+        (mapped-alike n 0 (λ i m. hk i (omega arith)) (λ i m. ht i (omega arith)) (valueOf (kindOf from) a) _ _ (converted-alike (entriesFrom sw dw ks ts 0 n) (entriesFrom sw dw ks′ ts′ 0 n) a b h))
+
+-- ---- the answer, and the destination, of n outcomes from the position i on
+module _ (k : Kind) (o o′ : ℕ → Outcome) where
+  abbrev Alikes : ℕ → ℕ → Type 0
+  Alikes i n = (j : ℕ) → i ≤ j → j < i + n → Outcomes k (o j) (o′ j)
+
+  next-alikes : (i n : ℕ) → Alikes i (suc n) → Alikes (suc i) n
+  next-alikes i n h j l m = h j (omega arith) (omega arith)
+
+  answer-next : (i : ℕ) (x y : Outcome) (r r′ : Answer) → Outcomes k x y → SameAnswer r r′ → SameAnswer (answerNext x i r) (answerNext y i r′)
+  answer-next i x y r r′ (inl e) h = subst (λ (z : Outcome). SameAnswer (answerNext x i r) (answerNext z i r′)) e (go x)
+    where
+      go : (z : Outcome) → SameAnswer (answerNext z i r) (answerNext z i r′)
+      go (Stored b) = h
+      go (NanOrInf v) = inl refl
+      go (OutOfRange v lo hi) = inl refl
+      go (FloatOutOfRange v lo hi) = inl refl
+  answer-next i x y r r′ (inr (inl s)) h = subst (λ (z : Outcome). SameAnswer (answerNext z i r) (answerNext y i r′)) (sym (s .first)) (subst (λ (z : Outcome). SameAnswer r (answerNext z i r′)) (sym (s .second)) h)
+  answer-next i x y r r′ (inr (inr s)) h = inr (record { position = i; value = s .v; other = s .v′; first = ap (λ (z : Outcome). answerNext z i r) (s .first); second = ap (λ (z : Outcome). answerNext z i r′) (s .second); nans = s .nans })
+
+  answer-alike : (n i : ℕ) → Alikes i n → SameAnswer (answerFrom o i n) (answerFrom o′ i n)
+  answer-alike zero i h = inl refl
+  answer-alike (suc n) i h = answer-next i (o i) (o′ i) (answerFrom o (suc i) n) (answerFrom o′ (suc i) n) (h i (omega arith) (omega arith)) (answer-alike n (suc i) (next-alikes i n h))
+
+  module _ (w : ℕ) (fit : 256 ^ w ≡ 2 ^ bits k) where
+    -- two destinations as far as n places
+    pub record Both (n : ℕ) (d d′ : List ℕ) : Type 0 where
+      pub long : length d ≡ length d′
+      pub at : (j : ℕ) → j < n → Alike k (patternAt w d j) (patternAt w d′ j)
+
+    place-after : (d : List ℕ) (j : ℕ) → patternAt w (drop w d) j ≡ patternAt w d (suc j)
+    place-after d j = ap (λ (l : List ℕ). fromLe (take w l)) (drop-drop (j * w) w d ∙ ap (λ (z : ℕ). drop z d) (step j))
+      where
+        step : (j : ℕ) → w + j * w ≡ suc j * w
+        step j = omega arith
+
+    after : (n : ℕ) (d d′ : List ℕ) → Both (suc n) d d′ → Both n (drop w d) (drop w d′)
+    after n d d′ h = record {
+      long = length-drop w d ∙ ap (λ (z : ℕ). z - w) (h .long) ∙ sym (length-drop w d′);
+      at = λ j l. subst (λ (z : ℕ). Alike k z (patternAt w (drop w d′) j)) (sym (place-after d j)) (subst (λ (z : ℕ). Alike k (patternAt w d (suc j)) z) (sym (place-after d′ j)) (h .at (suc j) (omega arith)));
+    }
+
+    put-both : (n b b′ : ℕ) (r r′ : List ℕ) → Alike k b b′ → Both n r r′ → Both (suc n) (toLe w b ++ r) (toLe w b′ ++ r′)
+    put-both n b b′ r r′ a h = record {
+      long = length-append (toLe w b) r ∙ ap₂ (λ (x y : ℕ). x + y) (length-toLe w b ∙ sym (length-toLe w b′)) (h .long) ∙ sym (length-append (toLe w b′) r′);
+      at = place;
+    }
+      where
+        place : (j : ℕ) → j < suc n → Alike k (patternAt w (toLe w b ++ r) j) (patternAt w (toLe w b′ ++ r′) j)
+        place zero l = subst (λ (z : ℕ). Alike k z (patternAt w (toLe w b′ ++ r′) 0)) (sym (first-place w b r ∙ ap (λ (z : ℕ). b % z) fit)) (subst (λ (z : ℕ). Alike k (b % 2 ^ bits k) z) (sym (first-place w b′ r′ ∙ ap (λ (z : ℕ). b′ % z) fit)) (low-alike k b b′ a))
+        place (suc j) l = subst (λ (z : ℕ). Alike k z (patternAt w (toLe w b′ ++ r′) (suc j))) (sym (next-place w b j r)) (subst (λ (z : ℕ). Alike k (patternAt w r j) z) (sym (next-place w b′ j r′)) (h .at j (omega arith)))
+
+    bytes-next : (n : ℕ) (x y : Outcome) (d d′ r r′ : List ℕ) → Outcomes k x y → Both (suc n) d d′ → Both n r r′ → Both (suc n) (bytesNext x w d r) (bytesNext y w d′ r′)
+    bytes-next n x y d d′ r r′ (inl e) h g = subst (λ (z : Outcome). Both (suc n) (bytesNext x w d r) (bytesNext z w d′ r′)) e (go x)
+      where
+        go : (z : Outcome) → Both (suc n) (bytesNext z w d r) (bytesNext z w d′ r′)
+        go (Stored b) = put-both n b b r r′ (inl refl) g
+        go (NanOrInf v) = h
+        go (OutOfRange v lo hi) = h
+        go (FloatOutOfRange v lo hi) = h
+    bytes-next n x y d d′ r r′ (inr (inl s)) h g = subst (λ (z : Outcome). Both (suc n) (bytesNext z w d r) (bytesNext y w d′ r′)) (sym (s .first)) (subst (λ (z : Outcome). Both (suc n) (toLe w (s .b) ++ r) (bytesNext z w d′ r′)) (sym (s .second)) (put-both n (s .b) (s .b′) r r′ (inr (s .nans)) g))
+    bytes-next n x y d d′ r r′ (inr (inr s)) h g = subst (λ (z : Outcome). Both (suc n) (bytesNext z w d r) (bytesNext y w d′ r′)) (sym (s .first)) (subst (λ (z : Outcome). Both (suc n) d (bytesNext z w d′ r′)) (sym (s .second)) h)
+
+    bytes-alike : (n i : ℕ) (d d′ : List ℕ) → Alikes i n → Both n d d′ → Both n (bytesFrom o w i n d) (bytesFrom o′ w i n d′)
+    bytes-alike zero i d d′ h g = g
+    bytes-alike (suc n) i d d′ h g = bytes-next n (o i) (o′ i) d d′ (bytesFrom o w (suc i) n (drop w d)) (bytesFrom o′ w (suc i) n (drop w d′)) (h i (omega arith) (omega arith)) g (bytes-alike n (suc i) (drop w d) (drop w d′) (next-alikes i n h) (after n d d′ g))
+
+-- places that are there keep the destination's length
+module _ (o : ℕ → Outcome) (w : ℕ) where
+  length-bytes : (n i : ℕ) (d : List ℕ) → n * w ≤ length d → length (bytesFrom o w i n d) ≡ length d
+  length-bytes zero i d h = refl
+  length-bytes (suc n) i d h = go (o i) (bytesFrom o w (suc i) n (drop w d)) (length-bytes n (suc i) (drop w d) (subst (λ (z : ℕ). n * w ≤ z) (sym (length-drop w d)) (omega arith)) ∙ length-drop w d)
+    where
+      go : (x : Outcome) (r : List ℕ) → length r ≡ length d - w → length (bytesNext x w d r) ≡ length d
+      go (Stored b) r e = length-append (toLe w b) r ∙ ap (λ (z : ℕ). z + length r) (length-toLe w b) ∙ omega arith
+      go (NanOrInf v) r e = refl
+      go (OutOfRange v lo hi) r e = refl
+      go (FloatOutOfRange v lo hi) r e = refl
+
+-- ---- the checks
+through : (a b c d : Bool) (x x′ p q r s : Answer) → (T (a && b && c && d) → SameAnswer x x′) → SameAnswer (cond a (cond b (cond c (cond d x p) q) r) s) (cond a (cond b (cond c (cond d x′ p) q) r) s)
+through true true true true x x′ p q r s h = h tt
+through true true true false x x′ p q r s h = inl refl
+through true true false d x x′ p q r s h = inl refl
+through true false c d x x′ p q r s h = inl refl
+through false b c d x x′ p q r s h = inl refl
+
+second-fourth : (a b c d : Bool) → T (a && b && c && d) → T b × T d
+second-fourth true true true true h = (tt, tt)
+second-fourth true true true false h = absurd h
+second-fourth true true false d h = absurd h
+second-fourth true false c d h = absurd h
+second-fourth false b c d h = absurd h
+
+third : (x y z : Bool) → T (x && y && z) → T z
+third true true z h = h
+third true false z h = absurd h
+third false y z h = absurd h
+
+-- ---- any two such inputs
+module _ (I : Inputs) (s d ks ts : List ℕ) (hs : AlikeBytes (kindOf (I .from)) (sw I) (I .source) s) (hd : AlikeBytes (kindOf (I .to)) (dw I) (I .destination) d)
+    (hk : AlikeBytes (kindOf (I .from)) (sw I) (I .keys) ks) (ht : AlikeBytes (kindOf (I .to)) (dw I) (I .targets) ts) where
+  abbrev J : Inputs
+  J = inputs s d ks ts (I .from) (I .to) (I .rounding) (I .range)
+
+  map-same : mapWhole I ≡ mapWhole J
+  map-same = ap₂ (λ (m n : ℕ). eqb (m % sw I) 0 && eqb (n % dw I) 0 && eqb (m / sw I) (n / dw I)) (hk .long) (ht .long)
+
+  bytes-same : bytesWhole I ≡ bytesWhole J
+  bytes-same = ap₂ (λ (m n : ℕ). eqb (m % sw I) 0 && eqb (n % dw I) 0) (hs .long) (hd .long)
+
+  counts-same : countsMeet I ≡ countsMeet J
+  counts-same = ap₂ (λ (m n : ℕ). eqb (m / sw I) (n / dw I)) (hs .long) (hd .long)
+
+  count-same : callOf I .count ≡ callOf J .count
+  unfolding callOf
+  count-same = ap (λ (m : ℕ). m / sw I) (hs .long)
+
+  outcomes : T (mapWhole I) → (j : ℕ) → j < length (I .source) / sw I → Outcomes (kindOf (I .to)) (outcomeAt (callOf I) j) (outcomeAt (callOf J) j)
+  unfolding outcomeAt callOf settingsOf
+  outcomes m j l =
+      let n = length (I .keys) / sw I in
+      let e : n ≡ length (I .targets) / dw I = eqb→eq n (length (I .targets) / dw I) (third (eqb (length (I .keys) % sw I) 0) (eqb (length (I .targets) % dw I) 0) (eqb n (length (I .targets) / dw I)) m) in
+      subst (λ (z : ℕ). Outcomes (kindOf (I .to)) (outcomeAt (callOf I) j) (outcomeOf (record { from = kindOf (I .from); to = kindOf (I .to); rule = roundingOf (I .rounding); range = rangeOf (I .range); entries = entriesFrom (sw I) (dw I) ks ts 0 z }) (patternAt (sw I) s j)))
+      (ap (λ (z : ℕ). z / sw I) (hk .long))
+      (outcome-alike (I .from) (I .to) (roundingOf (I .rounding)) (rangeOf (I .range)) (sw I) (dw I) (I .keys) (I .targets) ks ts n (patternAt (sw I) (I .source) j) (patternAt (sw I) s j)
+      (hk .at) (λ i h. ht .at i (subst (λ (z : ℕ). i < z) e h)) (hs .at j l))
+
+  alikes : T (mapWhole I) → Alikes (kindOf (I .to)) (outcomeAt (callOf I)) (outcomeAt (callOf J)) 0 (callOf I .count)
+  unfolding callOf
+  alikes m j l h = outcomes m j (subst (λ (z : ℕ). j < z) (zero-add (callOf I .count)) h)
+
+  answers : SameAnswer (answerOf I) (answerOf J)
+  unfolding answerOf
+  answers =
+      subst (λ (r : Answer). SameAnswer (answerOf I) r)
+      (ap₂ (λ (b c : Bool). cond (codesListed I) (cond b (cond c (cond (countsMeet I) (answerFrom (outcomeAt (callOf J)) 0 (callOf I .count)) (A.LengthMismatch (length (I .source) / sw I) (length (I .destination) / dw I))) A.BrokenElement) A.BrokenMap) A.UnknownCode) map-same bytes-same
+      ∙ ap₂ (λ (t : Bool) (n : ℕ). cond (codesListed I) (cond (mapWhole J) (cond (bytesWhole J) (cond t (answerFrom (outcomeAt (callOf J)) 0 n) (A.LengthMismatch (length (I .source) / sw I) (length (I .destination) / dw I))) A.BrokenElement) A.BrokenMap) A.UnknownCode) counts-same count-same
+      ∙ ap₂ (λ (m n : ℕ). cond (codesListed I) (cond (mapWhole J) (cond (bytesWhole J) (cond (countsMeet J) (answerFrom (outcomeAt (callOf J)) 0 (callOf J .count)) (A.LengthMismatch (m / sw I) (n / dw I))) A.BrokenElement) A.BrokenMap) A.UnknownCode) (hs .long) (hd .long))
+      (through (codesListed I) (mapWhole I) (bytesWhole I) (countsMeet I) _ _ _ _ _ _ (λ h. answer-alike (kindOf (I .to)) (outcomeAt (callOf I)) (outcomeAt (callOf J)) (callOf I .count) 0 (alikes (second-fourth (codesListed I) (mapWhole I) (bytesWhole I) (countsMeet I) h .0))))
+
+  passed-same : callOf I .passed ≡ callOf J .passed
+  unfolding callOf
+  passed-same = ap₂ (λ (b c : Bool). codesListed I && b && c && countsMeet I) map-same bytes-same ∙ ap (λ (t : Bool). codesListed I && mapWhole J && bytesWhole J && t) counts-same
+
+  counts-meet : T (callOf I .passed) → callOf I .count ≡ length (I .destination) / dw I
+  unfolding callOf
+  counts-meet h = eqb→eq (length (I .source) / sw I) (length (I .destination) / dw I) (second-fourth (codesListed I) (mapWhole I) (bytesWhole I) (countsMeet I) h .1)
+
+  written : T (callOf I .passed) → Both (kindOf (I .to)) (outcomeAt (callOf I)) (outcomeAt (callOf J)) (dw I) (kind-fits (I .to)) (callOf I .count) (bytesFrom (outcomeAt (callOf I)) (dw I) 0 (callOf I .count) (I .destination)) (bytesFrom (outcomeAt (callOf J)) (dw I) 0 (callOf I .count) d)
+  unfolding callOf
+  written h =
+      bytes-alike (kindOf (I .to)) (outcomeAt (callOf I)) (outcomeAt (callOf J)) (dw I) (kind-fits (I .to)) (callOf I .count) 0 (I .destination) d (alikes (second-fourth (codesListed I) (mapWhole I) (bytesWhole I) (countsMeet I) h .0))
+      (record { long = hd .long; at = λ j l. hd .at j (subst (λ (z : ℕ). j < z) (counts-meet h) l) })
+
+  long-written : T (callOf I .passed) → length (bytesFrom (outcomeAt (callOf I)) (dw I) 0 (callOf I .count) (I .destination)) ≡ length (I .destination)
+  unfolding callOf
+  long-written h = length-bytes (outcomeAt (callOf I)) (dw I) (callOf I .count) 0 (I .destination) (subst (λ (z : ℕ). z * dw I ≤ length (I .destination)) (sym (counts-meet h)) (omega (arith, div-add-mod' (length (I .destination)) (dw I))))
+
+  destinations : AlikeBytes (kindOf (I .to)) (dw I) (destinationOf I) (destinationOf J)
+  unfolding destinationOf
+  destinations =
+      subst (λ (r : List ℕ). AlikeBytes (kindOf (I .to)) (dw I) (destinationOf I) r)
+      (ap₂ (λ (t : Bool) (n : ℕ). cond t (bytesFrom (outcomeAt (callOf J)) (dw I) 0 n d) d) passed-same count-same)
+      (go (callOf I .passed) written′)
+    where
+      written′ : T (callOf I .passed) → AlikeBytes (kindOf (I .to)) (dw I) (bytesFrom (outcomeAt (callOf I)) (dw I) 0 (callOf I .count) (I .destination)) (bytesFrom (outcomeAt (callOf J)) (dw I) 0 (callOf I .count) d)
+      written′ h = record {
+        long = written h .long;
+        at = λ i l. written h .at i (subst (λ (z : ℕ). i < z) (ap (λ (z : ℕ). z / dw I) (long-written h) ∙ sym (counts-meet h)) l);
+      }
+
+      go : (t : Bool) {a b : List ℕ} → (T t → AlikeBytes (kindOf (I .to)) (dw I) a b) → AlikeBytes (kindOf (I .to)) (dw I) (cond t a (I .destination)) (cond t b d)
+      go true h = h tt
+      go false h = hd
+
+  same : (r : Answer) (d′ : List ℕ) → Contract I r d′ → SameButNans J r d′
+  same r d′ c = record {
+    answer = subst (λ (x : Answer). SameAnswer x (answerOf J)) (sym (c .answer)) answers;
+    destination = subst (λ (x : List ℕ). AlikeBytes (kindOf (I .to)) (dw I) x (destinationOf J)) (sym (c .bytes)) destinations;
+  }
+
+-- what meets the contract on I meets it, but for NaNs, on every J that differs in the patterns of NaNs alone
+pub same-but-nans : (I J : Inputs) (r : Answer) (d : List ℕ) → AlikeInputs I J → Contract I r d → SameButNans J r d
+same-but-nans I J r d h c = subst (λ (X : Inputs). SameButNans X r d) (sym (h .codes)) (same I (J .source) (J .destination) (J .keys) (J .targets) (h .source) (h .destination) (h .keys) (h .targets) r d c)
