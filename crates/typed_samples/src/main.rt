@@ -46,10 +46,23 @@ fn long(v: u64) -> [u8; 8] {
     out
 }
 
-fn three_words(a: u64, b: u64, c: u64) -> [u8; 12] {
-    let x = word(a);
-    let y = word(b);
-    let z = word(c);
+fn f64_bytes(x: f64) -> [u8; 8] {
+    long(typed::bits_f64(x))
+}
+
+fn i64_bytes(x: i64) -> [u8; 8] {
+    long(typed::bits_i64(x))
+}
+
+fn f32_bytes(x: f32) -> [u8; 4] {
+    word(typed::bits_f32(x))
+}
+
+fn i32_bytes(x: i32) -> [u8; 4] {
+    word(typed::bits_i32(x))
+}
+
+fn three_words(x: [u8; 4], y: [u8; 4], z: [u8; 4]) -> [u8; 12] {
     [
         x[0],
         x[1],
@@ -66,11 +79,7 @@ fn three_words(a: u64, b: u64, c: u64) -> [u8; 12] {
     ]
 }
 
-fn four_words(a: u64, b: u64, c: u64, d: u64) -> [u8; 16] {
-    let x = word(a);
-    let y = word(b);
-    let z = word(c);
-    let w = word(d);
+fn four_words(x: [u8; 4], y: [u8; 4], z: [u8; 4], w: [u8; 4]) -> [u8; 16] {
     [
         x[0],
         x[1],
@@ -91,10 +100,7 @@ fn four_words(a: u64, b: u64, c: u64, d: u64) -> [u8; 16] {
     ]
 }
 
-fn three_longs(a: u64, b: u64, c: u64) -> [u8; 24] {
-    let x = long(a);
-    let y = long(b);
-    let z = long(c);
+fn three_longs(x: [u8; 8], y: [u8; 8], z: [u8; 8]) -> [u8; 24] {
     [
         x[0],
         x[1],
@@ -123,11 +129,7 @@ fn three_longs(a: u64, b: u64, c: u64) -> [u8; 24] {
     ]
 }
 
-fn four_longs(a: u64, b: u64, c: u64, d: u64) -> [u8; 32] {
-    let x = long(a);
-    let y = long(b);
-    let z = long(c);
-    let w = long(d);
+fn four_longs(x: [u8; 8], y: [u8; 8], z: [u8; 8], w: [u8; 8]) -> [u8; 32] {
     [
         x[0],
         x[1],
@@ -162,6 +164,24 @@ fn four_longs(a: u64, b: u64, c: u64, d: u64) -> [u8; 32] {
         w[6],
         w[7],
     ]
+}
+
+fn four_f64(s: [f64; 4]) -> [u8; 32] {
+    four_longs(
+        f64_bytes(s[0]),
+        f64_bytes(s[1]),
+        f64_bytes(s[2]),
+        f64_bytes(s[3]),
+    )
+}
+
+fn four_f32(s: [f32; 4]) -> [u8; 16] {
+    four_words(
+        f32_bytes(s[0]),
+        f32_bytes(s[1]),
+        f32_bytes(s[2]),
+        f32_bytes(s[3]),
+    )
 }
 
 // ---- comparison and output
@@ -329,18 +349,9 @@ fn bytes_f64_u8(src: [f64; 4], rounding: u8, range: u8) -> Four {
     let e0 = m[0];
     let e1 = m[1];
     let e2 = m[2];
-    let keys = three_longs(
-        typed::bits_f64(e0.key),
-        typed::bits_f64(e1.key),
-        typed::bits_f64(e2.key),
-    );
+    let keys = three_longs(f64_bytes(e0.key), f64_bytes(e1.key), f64_bytes(e2.key));
     let targets = three_bytes(e0.target, e1.target, e2.target);
-    let elements = four_longs(
-        typed::bits_f64(src[0]),
-        typed::bits_f64(src[1]),
-        typed::bits_f64(src[2]),
-        typed::bits_f64(src[3]),
-    );
+    let elements = four_f64(src);
     let z = 0xaau8;
     let before = four_bytes(z, z, z, z);
     long_to_byte(elements, before, keys, targets, 9, 4, rounding, range)
@@ -376,10 +387,10 @@ fn typed_f64_i32(src: [f64; 4], rounding: u8, range: u8) -> Sixteen {
     Sixteen {
         answer: a,
         bytes: four_words(
-            typed::bits_i32(dst[0]),
-            typed::bits_i32(dst[1]),
-            typed::bits_i32(dst[2]),
-            typed::bits_i32(dst[3]),
+            i32_bytes(dst[0]),
+            i32_bytes(dst[1]),
+            i32_bytes(dst[2]),
+            i32_bytes(dst[3]),
         ),
     }
 }
@@ -389,29 +400,15 @@ fn bytes_f64_i32(src: [f64; 4], rounding: u8, range: u8) -> Sixteen {
     let e0 = m[0];
     let e1 = m[1];
     let e2 = m[2];
-    let keys = three_longs(
-        typed::bits_f64(e0.key),
-        typed::bits_f64(e1.key),
-        typed::bits_f64(e2.key),
-    );
+    let keys = three_longs(f64_bytes(e0.key), f64_bytes(e1.key), f64_bytes(e2.key));
     let targets = three_words(
-        typed::bits_i32(e0.target),
-        typed::bits_i32(e1.target),
-        typed::bits_i32(e2.target),
+        i32_bytes(e0.target),
+        i32_bytes(e1.target),
+        i32_bytes(e2.target),
     );
-    let elements = four_longs(
-        typed::bits_f64(src[0]),
-        typed::bits_f64(src[1]),
-        typed::bits_f64(src[2]),
-        typed::bits_f64(src[3]),
-    );
-    let z = -1i32;
-    let before = four_words(
-        typed::bits_i32(z),
-        typed::bits_i32(z),
-        typed::bits_i32(z),
-        typed::bits_i32(z),
-    );
+    let elements = four_f64(src);
+    let z = i32_bytes(-1i32);
+    let before = four_words(z, z, z, z);
     long_to_word(elements, before, keys, targets, 9, 2, rounding, range)
 }
 
@@ -453,18 +450,9 @@ fn bytes_f32_u8(src: [f32; 4], rounding: u8, range: u8) -> Four {
     let e0 = m[0];
     let e1 = m[1];
     let e2 = m[2];
-    let keys = three_words(
-        typed::bits_f32(e0.key),
-        typed::bits_f32(e1.key),
-        typed::bits_f32(e2.key),
-    );
+    let keys = three_words(f32_bytes(e0.key), f32_bytes(e1.key), f32_bytes(e2.key));
     let targets = three_bytes(e0.target, e1.target, e2.target);
-    let elements = four_words(
-        typed::bits_f32(src[0]),
-        typed::bits_f32(src[1]),
-        typed::bits_f32(src[2]),
-        typed::bits_f32(src[3]),
-    );
+    let elements = four_f32(src);
     let z = 0xaau8;
     let before = four_bytes(z, z, z, z);
     word_to_byte(elements, before, keys, targets, 8, 4, rounding, range)
@@ -499,12 +487,7 @@ fn typed_f64_f32(src: [f64; 4], rounding: u8, range: u8) -> Sixteen {
     let a = typed::convert_f64_to_f32_with3(&src, &mut dst, map_f64_f32(), rounding, range);
     Sixteen {
         answer: a,
-        bytes: four_words(
-            typed::bits_f32(dst[0]),
-            typed::bits_f32(dst[1]),
-            typed::bits_f32(dst[2]),
-            typed::bits_f32(dst[3]),
-        ),
+        bytes: four_f32(dst),
     }
 }
 
@@ -513,29 +496,15 @@ fn bytes_f64_f32(src: [f64; 4], rounding: u8, range: u8) -> Sixteen {
     let e0 = m[0];
     let e1 = m[1];
     let e2 = m[2];
-    let keys = three_longs(
-        typed::bits_f64(e0.key),
-        typed::bits_f64(e1.key),
-        typed::bits_f64(e2.key),
-    );
+    let keys = three_longs(f64_bytes(e0.key), f64_bytes(e1.key), f64_bytes(e2.key));
     let targets = three_words(
-        typed::bits_f32(e0.target),
-        typed::bits_f32(e1.target),
-        typed::bits_f32(e2.target),
+        f32_bytes(e0.target),
+        f32_bytes(e1.target),
+        f32_bytes(e2.target),
     );
-    let elements = four_longs(
-        typed::bits_f64(src[0]),
-        typed::bits_f64(src[1]),
-        typed::bits_f64(src[2]),
-        typed::bits_f64(src[3]),
-    );
-    let z = -1.5f32;
-    let before = four_words(
-        typed::bits_f32(z),
-        typed::bits_f32(z),
-        typed::bits_f32(z),
-        typed::bits_f32(z),
-    );
+    let elements = four_f64(src);
+    let z = f32_bytes(-1.5f32);
+    let before = four_words(z, z, z, z);
     long_to_word(elements, before, keys, targets, 9, 8, rounding, range)
 }
 
@@ -568,12 +537,7 @@ fn typed_i64_f32(src: [i64; 4], rounding: u8, range: u8) -> Sixteen {
     let a = typed::convert_i64_to_f32_with3(&src, &mut dst, map_i64_f32(), rounding, range);
     Sixteen {
         answer: a,
-        bytes: four_words(
-            typed::bits_f32(dst[0]),
-            typed::bits_f32(dst[1]),
-            typed::bits_f32(dst[2]),
-            typed::bits_f32(dst[3]),
-        ),
+        bytes: four_f32(dst),
     }
 }
 
@@ -582,29 +546,20 @@ fn bytes_i64_f32(src: [i64; 4], rounding: u8, range: u8) -> Sixteen {
     let e0 = m[0];
     let e1 = m[1];
     let e2 = m[2];
-    let keys = three_longs(
-        typed::bits_i64(e0.key),
-        typed::bits_i64(e1.key),
-        typed::bits_i64(e2.key),
-    );
+    let keys = three_longs(i64_bytes(e0.key), i64_bytes(e1.key), i64_bytes(e2.key));
     let targets = three_words(
-        typed::bits_f32(e0.target),
-        typed::bits_f32(e1.target),
-        typed::bits_f32(e2.target),
+        f32_bytes(e0.target),
+        f32_bytes(e1.target),
+        f32_bytes(e2.target),
     );
     let elements = four_longs(
-        typed::bits_i64(src[0]),
-        typed::bits_i64(src[1]),
-        typed::bits_i64(src[2]),
-        typed::bits_i64(src[3]),
+        i64_bytes(src[0]),
+        i64_bytes(src[1]),
+        i64_bytes(src[2]),
+        i64_bytes(src[3]),
     );
-    let z = -1.5f32;
-    let before = four_words(
-        typed::bits_f32(z),
-        typed::bits_f32(z),
-        typed::bits_f32(z),
-        typed::bits_f32(z),
-    );
+    let z = f32_bytes(-1.5f32);
+    let before = four_words(z, z, z, z);
     long_to_word(elements, before, keys, targets, 3, 8, rounding, range)
 }
 
