@@ -7,6 +7,7 @@ pub mod Pairs
 pub mod Parts
 pub mod Patterns
 pub mod Places
+pub mod RefusedNan
 pub mod Signed
 pub mod Stored
 pub mod Threes

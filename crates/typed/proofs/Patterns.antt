@@ -1,6 +1,5 @@
 -- Floats as patterns: each has one below 2 to its format's bits, and what is read from that pattern has it again.
 -- Assumes nothing.
--- a float that does not differ from itself is no NaN
 use mathlib.Core.Bool.{Bool, true, false, not, cond, true≢false}
 use mathlib.Core.Path.{_≡_, refl, sym, ap, subst, _∙_}
 use Prim.Native.Nat.{ℕ, _*_, _%_, _≤_, _<_}
@@ -11,6 +10,7 @@ use lib.Ieee.{Float, Format, binary32, binary64, nan, inf, fin, fits, isNan, ne,
 use borrow.Author.Tests.{lt-ltb, le-ltb}
 use Rattle.typed.specs.Typed.{floatBits}
 
+-- a float that does not differ from itself is no NaN
 pub no-nan : (x : Float) → ne x x ≡ false → T (not (isNan x))
 unfolding isNan ne
 no-nan nan e = subst T e tt

@@ -124,11 +124,11 @@ module _ {X Y Z : Type 0} (P : Elements X Y Z) (xs : List X) (ys : List Z) (roun
     settings-are = ap {B = Settings} (λ (l : List Entry). record { from = kindOf from; to = kindOf to; rule = roundingOf rounding; range = rangeOf range; entries = l })
         (ap (entriesFrom v w (I .keys) (I .targets) 0) (keys-whole .0) ∙ entries-back v w es none (λ j h. subst (λ (z : ℕ). getD es j none .key < z) (sym (kind-fits from)) (entry-below (P .entry-bits) (λ (e : Entry). e .key) _ (P .key-fits) none ys j h)) (λ j h. subst (λ (z : ℕ). getD es j none .target < z) (sym (kind-fits to)) (entry-below (P .entry-bits) (λ (e : Entry). e .target) _ (P .target-fits) none ys j h)))
 
-    outcome-at : (i : ℕ) → i < length ps → outcomeAt (callOf I) i ≡ outcomeOf S (getD ps i 0)
+    pub outcome-at : (i : ℕ) → i < length ps → outcomeAt (callOf I) i ≡ outcomeOf S (getD ps i 0)
     unfolding outcomeAt callOf
     outcome-at i h = ap₂ outcomeOf settings-are (pattern-at v ps i h (subst (λ (z : ℕ). getD ps i 0 < z) (sym (kind-fits from)) (fits i h)))
 
-    count-is : callOf I .count ≡ length ps
+    pub count-is : callOf I .count ≡ length ps
     unfolding callOf
     count-is = source-whole .0
 

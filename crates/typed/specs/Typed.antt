@@ -70,7 +70,11 @@ typedInputs from to src dst es rounding range = inputs
     (bytesOf (width (kindOf to)) (map (λ (e : E.Entry). e .target) es))
     from to rounding range
 
+-- the value of a refusal that concerns a NaN: 0x7ff8000000000000
+abbrev pub refusedNan : ℕ
+refusedNan = 9221120237041090560
+
 -- ---- a typed entry's contract is the chunk call's: the answer and every byte by an equation with the definitions, and demand 3.
--- Free is which pattern a NaN in the destination has; it is a NaN, and stands here as the quiet one. So does a refused NaN in an answer.
+-- Free is which pattern a NaN in the destination has; it is a NaN, and stands here as the quiet one. A refused NaN's value is `refusedNan`.
 abbrev pub TypedContract : ℕ → ℕ → List ℕ → List ℕ → List E.Entry → ℕ → ℕ → Answer → List ℕ → Type 0
 TypedContract from to src dst es rounding range r dst′ = Contract (typedInputs from to src dst es rounding range) r (bytesOf (width (kindOf to)) dst′)

@@ -1,0 +1,144 @@
+-- The value of a refusal that concerns a NaN is the settled one, `refusedNan`, in every typed entry.
+-- Assumes nothing.
+use mathlib.Core.Bool.{Bool, true, false, cond}
+use mathlib.Core.Path.{_≡_, refl, sym, ap, subst, _∙_}
+use mathlib.Core.Logic.{_⊎_, inl, inr}
+use mathlib.Core.List.{List, [], _∷_, map}
+use Prim.Native.Nat.{ℕ, zero, suc, _+_, _/_, _<_}
+use native.Mathlib.Nat.{zero-add}
+use native.Mathlib.Omega.{arith}
+use lib.Dec.{lit<, lit≤}
+use lib.IntN.{ℤ}
+use lib.Ieee as F
+use lib.Ieee.{Float, Format, binary32, binary64, toBits}
+use lib.ListN.{length}
+use Rattle.grid.specs.Round.{pick}
+use Rattle.patterns.specs.Kind.{Kind, integer, binary, f64, gridOf}
+use Rattle.patterns.specs.Value.{Value, nan, inf, num, negative, valueOf}
+use Rattle.patterns.specs.Pattern.{patternOf, infinity, nanPattern, asF64, asF64From}
+use Rattle.patterns.proofs.Floats.{inf-back}
+use Rattle.patterns.proofs.Ieee.{kindFor}
+use Rattle.kinds.specs.Codes.{kindOf}
+use Rattle.kinds.specs.declared.OutOfRangeMode.{OutOfRangeMode}
+use Rattle.kinds.specs.declared.OutOfRangeMode.the-variants.{None, Clamp, Wrap}
+use Rattle.kinds.specs.declared.Outcome.{Outcome}
+use Rattle.kinds.specs.declared.Outcome.the-variants.{Stored, NanOrInf, OutOfRange, FloatOutOfRange}
+use Rattle.kinds.specs.declared.Answer.{Answer}
+use Rattle.kinds.specs.declared.Answer.the-variants as A
+use Rattle.cast_spec.specs.Element.{Entry, Settings, matches, mapped, inRange, beyond, converted, outcomeOf}
+use Rattle.cast_spec.specs.Chunk.{Inputs, sw, dw, codesListed, mapWhole, bytesWhole, countsMeet, callOf, outcomeAt, answerNext, answerFrom, answerOf}
+use Rattle.typed.specs.Typed.{floatBits, i64Bits, typedInputs, TypedContract, refusedNan}
+use Rattle.typed.proofs.Stored.{quiet, no-integer-nan}
+use Rattle.typed.proofs.Places.{some-element}
+use Rattle.typed.proofs.Turns.{Elements, settings, outcome-at, count-is}
+use Rattle.typed.proofs.Pairs as pairs
+
+-- ---- refusal 5 is of a NaN or of an infinity, and has its pattern as f64
+abbrev OfNanOrInf : Kind → ℕ → ℕ → Type 0
+OfNanOrInf k b v = ((valueOf k b ≡ nan) × (nanPattern k 53 11 b ≡ v)) ⊎ ((neg : Bool) × (infinity 53 11 neg ≡ v))
+
+stored-apart : {b v : ℕ} → Stored b ≡ NanOrInf v → ⊥
+stored-apart e = let z : _≡_ {A = ℕ} 0 1 = cc in omega arith
+
+beyond-apart : (k : Kind) (r : OutOfRangeMode) (u : ℕ) (neg : Bool) (y : ℤ) (v : ℕ) → beyond k r u neg y ≡ NanOrInf v → ⊥
+unfolding beyond
+beyond-apart (integer s n) None u neg y v e = let z : _≡_ {A = ℕ} 0 1 = cc in omega arith
+beyond-apart (integer s n) Clamp u neg y v e = stored-apart e
+beyond-apart (integer s n) Wrap u neg y v e = stored-apart e
+beyond-apart (binary p w s) None u neg y v e = let z : _≡_ {A = ℕ} 0 1 = cc in omega arith
+beyond-apart (binary p w s) Clamp u neg y v e = stored-apart e
+beyond-apart (binary p w s) Wrap u neg y v e = let z : _≡_ {A = ℕ} 0 1 = cc in omega arith
+
+-- ---- one element
+module _ (S : Settings) (b v : ℕ) where
+  of-value : (k : Kind) (u : Value) → valueOf (S .from) b ≡ u → converted S b k u ≡ NanOrInf v → OfNanOrInf (S .from) b v
+  of-value k (num x) h e = absurd (go (inRange k (pick (gridOf k) (S .rule) x)) (patternOf k (negative (S .from) b) (pick (gridOf k) (S .rule) x)) e)
+    where
+      go : (t : Bool) (a : ℕ) → cond t (Stored a) (beyond k (S .range) (asF64 (S .from) b) (negative (S .from) b) (pick (gridOf k) (S .rule) x)) ≡ NanOrInf v → ⊥
+      go true a e = stored-apart e
+      go false a e = beyond-apart k (S .range) (asF64 (S .from) b) (negative (S .from) b) (pick (gridOf k) (S .rule) x) v e
+  of-value (integer s n) (inf neg) h e = let f : asF64 (S .from) b ≡ v = cc in inr (neg, sym (ap (asF64From (S .from) b) h) ∙ f)
+  of-value (integer s n) nan h e = let f : asF64 (S .from) b ≡ v = cc in inl (h, sym (ap (asF64From (S .from) b) h) ∙ f)
+  of-value (binary p w s) (inf neg) h e = absurd (stored-apart e)
+  of-value (binary p w s) nan h e = absurd (stored-apart e)
+
+  unmatched : (u : Value) (es : List Entry) (o : Outcome) → mapped (S .from) u es o ≡ NanOrInf v → o ≡ NanOrInf v
+  unmatched u [] o h = h
+  unmatched u (e ∷ es) o h = go (matches u (valueOf (S .from) (e .key))) (unmatched u es o) h
+    where
+      go : (t : Bool) → (mapped (S .from) u es o ≡ NanOrInf v → o ≡ NanOrInf v) → cond t (Stored (e .target)) (mapped (S .from) u es o) ≡ NanOrInf v → o ≡ NanOrInf v
+      go true rest h = absurd (stored-apart h)
+      go false rest h = rest h
+
+  refused : outcomeOf S b ≡ NanOrInf v → OfNanOrInf (S .from) b v
+  unfolding outcomeOf
+  refused h = of-value (S .to) (valueOf (S .from) b) refl (unmatched (valueOf (S .from) b) (S .entries) (converted S b (S .to) (valueOf (S .from) b)) h)
+
+-- ---- the answer tells an element's refusal
+told : (o : ℕ → Outcome) (n a i v : ℕ) → answerFrom o a n ≡ A.NanOrInf i v → (i < a + n) × (o i ≡ NanOrInf v)
+told o zero a i v h = let z : _≡_ {A = ℕ} 0 1 = cc in absurd (omega arith)
+told o (suc n) a i v h = go (o a) refl (told o n (suc a) i v) h
+  where
+    go : (x : Outcome) → o a ≡ x → (answerFrom o (suc a) n ≡ A.NanOrInf i v → (i < suc a + n) × (o i ≡ NanOrInf v)) → answerNext x a (answerFrom o (suc a) n) ≡ A.NanOrInf i v → (i < a + suc n) × (o i ≡ NanOrInf v)
+    go (Stored b) e rest h = let t = rest h in (omega (arith, t .0), t .1)
+    go (NanOrInf u) e rest h = let p : a ≡ i = cc in let q : u ≡ v = cc in (omega arith, ap o (sym p) ∙ e ∙ ap NanOrInf q)
+    go (OutOfRange u lo hi) e rest h = let z : _≡_ {A = ℕ} 0 1 = cc in absurd (omega arith)
+    go (FloatOutOfRange u lo hi) e rest h = let z : _≡_ {A = ℕ} 0 1 = cc in absurd (omega arith)
+
+past-checks : (I : Inputs) (i v : ℕ) → answerOf I ≡ A.NanOrInf i v → answerFrom (outcomeAt (callOf I)) 0 (callOf I .count) ≡ A.NanOrInf i v
+unfolding answerOf
+past-checks I i v = go (codesListed I) (mapWhole I) (bytesWhole I) (countsMeet I) (length (I .source) / sw I) (length (I .destination) / dw I)
+  where
+    go : (a b c d : Bool) (m n : ℕ) {x : Answer} → cond a (cond b (cond c (cond d x (A.LengthMismatch m n)) A.BrokenElement) A.BrokenMap) A.UnknownCode ≡ A.NanOrInf i v → x ≡ A.NanOrInf i v
+    go true true true true m n h = h
+    go true true true false m n h = let z : _≡_ {A = ℕ} 0 1 = cc in absurd (omega arith)
+    go true true false d m n h = let z : _≡_ {A = ℕ} 0 1 = cc in absurd (omega arith)
+    go true false c d m n h = let z : _≡_ {A = ℕ} 0 1 = cc in absurd (omega arith)
+    go false b c d m n h = let z : _≡_ {A = ℕ} 0 1 = cc in absurd (omega arith)
+
+-- ---- the quiet NaN of either format, as f64
+quiet-value : (f : Format) → nanPattern (kindFor f) 53 11 (toBits f F.nan) ≡ refusedNan
+unfolding nanPattern toBits
+quiet-value binary32 = refl
+quiet-value binary64 = refl
+
+-- ---- a typed entry, by its elements
+abbrev Settled : {X Y Z : Type 0} → Elements X Y Z → X → Type 0
+Settled P x = valueOf (kindOf (P .from)) (P .source-bits x) ≡ nan → nanPattern (kindOf (P .from)) 53 11 (P .source-bits x) ≡ refusedNan
+
+abbrev pub RefusalsSettled : {X Y Z : Type 0} → Elements X Y Z → Type 0
+RefusalsSettled {X} {Y} {Z} P = (xs : List X) (ys : List Z) (rounding range : ℕ) (qs ds : List ℕ) (r : Answer) → TypedContract (P .from) (P .to) (map (P .source-bits) xs) qs (map (P .entry-bits) ys) rounding range r ds
+    → (i v : ℕ) → r ≡ A.NanOrInf i v → valueOf f64 v ≡ nan → v ≡ refusedNan
+
+refused-nan : {X Y Z : Type 0} (P : Elements X Y Z) → ((x : X) → Settled P x) → RefusalsSettled P
+refused-nan {X} P settled xs ys rounding range qs ds r c i v e h =
+    let ps = map (P .source-bits) xs in
+    let S = settings (P .from) (P .to) (map (P .entry-bits) ys) rounding range in
+    let I = typedInputs (P .from) (P .to) ps qs (map (P .entry-bits) ys) rounding range in
+    let t = told (outcomeAt (callOf I)) (callOf I .count) 0 i v (past-checks I i v (sym (c .answer) ∙ e)) in
+    let l : i < length ps = subst (λ (n : ℕ). i < n) (zero-add (callOf I .count) ∙ count-is P xs ys rounding range qs) (t .0) in
+    let x = some-element (P .source-bits) xs i l in
+    go (x .0) (refused S (P .source-bits (x .0)) v (subst (λ (b : ℕ). outcomeOf S b ≡ NanOrInf v) (sym (x .1)) (sym (outcome-at P xs ys rounding range qs i l) ∙ t .1)))
+  where
+    go : (x : X) → OfNanOrInf (kindOf (P .from)) (P .source-bits x) v → v ≡ refusedNan
+    go x (inl a) = sym (a .1) ∙ settled x (a .0)
+    go x (inr a) = let u : valueOf f64 v ≡ inf (a .0) = ap (valueOf f64) (sym (a .1)) ∙ inf-back 53 11 0 (lit≤ tt) (lit< tt) (a .0) in let z : _≡_ {A = ℕ} 0 1 = cc in absurd (omega arith)
+
+float-settled : (f : Format) (x : Float) → valueOf (kindFor f) (floatBits f x) ≡ nan → nanPattern (kindFor f) 53 11 (floatBits f x) ≡ refusedNan
+float-settled f x h = ap (nanPattern (kindFor f) 53 11) (quiet f x h) ∙ quiet-value f
+
+-- ---- the five
+pub f64-to-u8 : RefusalsSettled (pairs.f64-to-u8 .elements)
+f64-to-u8 = refused-nan (pairs.f64-to-u8 .elements) (float-settled binary64)
+
+pub f64-to-i32 : RefusalsSettled (pairs.f64-to-i32 .elements)
+f64-to-i32 = refused-nan (pairs.f64-to-i32 .elements) (float-settled binary64)
+
+pub f32-to-u8 : RefusalsSettled (pairs.f32-to-u8 .elements)
+f32-to-u8 = refused-nan (pairs.f32-to-u8 .elements) (float-settled binary32)
+
+pub f64-to-f32 : RefusalsSettled (pairs.f64-to-f32 .elements)
+f64-to-f32 = refused-nan (pairs.f64-to-f32 .elements) (float-settled binary64)
+
+pub i64-to-f32 : RefusalsSettled (pairs.i64-to-f32 .elements)
+i64-to-f32 = refused-nan (pairs.i64-to-f32 .elements) (λ x h. absurd (no-integer-nan true 64 (i64Bits x) h))
