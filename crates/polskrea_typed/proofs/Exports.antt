@@ -1,7 +1,6 @@
 -- An exported typed entry, as one function over a pair's types, meets its contract: a walk of its MIR, by hand. It calls the typed entry, and then leaves the answer's fields in the caller's words.
 -- The destination and the words are given to the callees for good, each under its own lifetime and name.
 -- Assumes nothing.
--- the caller's four words
 use mathlib.Core.Path.{_≡_, refl}
 use mathlib.Core.List.{List, [], _∷_, map}
 use Prim.Native.Nat.{ℕ, _<_, _^_}
@@ -38,16 +37,15 @@ use denote.Triple.Entry.{Vals, onEntry}
 use denote.Plain.{uint-makes, uint-lawful, uint-vals, uint-tells}
 use denote.Struct.Declared.{row}
 use Rattle.kinds.proofs.Answer.Laws as R′
-use Rattle.kinds.specs.Codes.{kindOf}
 use Rattle.kinds.proofs.Answer as R
 use Rattle.kinds.specs.declared.Answer.{Answer}
 use Rattle.kinds.specs.Answer.{numberOf}
-use Rattle.cast_spec.specs.Chunk.{width}
 use Rattle.typed.proofs.Conversions.{Pair, ended, clauses, Converts}
-use Rattle.typed.specs.Typed.{typedInputs, bytesOf}
 use Rattle.polskrea.proofs.Exported.{exported}
-use Rattle.polskrea.specs.Entry.{fieldsOf, Converted}
+use Rattle.polskrea.specs.Entry.{fieldsOf}
+use Rattle.polskrea_typed.specs.Exported.{Exported}
 
+-- the caller's four words
 abbrev Words : RattleType
 Words = Array u64 4
 
@@ -91,8 +89,7 @@ module _ (P : Pair) where
   ended′ = record { signature = record { lifetimes = 4; outlives = []; params = SliceRefOf (0 ∷ []) tt (plain (λ κs. R₁)) (λ κs. P .source-one) ∷ SliceRefMutOf (1 ∷ []) tt (plain (λ κs. R₂)) (λ κs. P .target-one) ∷ SliceRefOf (2 ∷ []) tt (plain (λ κs. R₃)) (λ κs. tt) ∷ plain (λ κs. u8) ∷ plain (λ κs. u8) ∷ RefMutOf (3 ∷ []) tt (ArrayOf (plain (λ κs. u64)) (λ κs. tt) 4) (λ κs. tt) ∷ []; result = plain (λ κs. u8) }; kept = (yes, (yes, (yes, (yes, (yes, (yes, tt)))))) }
 
   abbrev Out : List D₁ → List D₂ → List D₃ → ℕ → ℕ → ℕ → List ℕ → List D₂ → Type 0
-  Out xs ds ys rounding range n words zs = Converted (typedInputs (P .elements .from) (P .elements .to) (map (P .elements .source-bits) xs) (map (P .elements .target-bits) ds) (map (P .elements .entry-bits) ys) rounding range) n words
-      (bytesOf (width (kindOf (P .elements .to))) (map (P .elements .target-bits) zs))
+  Out xs ds ys rounding range n words zs = Exported (P .elements .from) (P .elements .to) (map (P .elements .source-bits) xs) (map (P .elements .target-bits) ds) (map (P .elements .entry-bits) ys) rounding range n words (map (P .elements .target-bits) zs)
 
   abbrev clauses′ : {M : Type 1} (𝓤 : URA M) → Clauses 𝓤 ended′
   clauses′ 𝓤 κs a = record { ghost = Unit {0}; requires = λ g. emp 𝓤; ensures = λ g r end. fact 𝓤 (Out (now (a .0)) (now (a .1 .0)) (now (a .1 .1 .0)) (a .1 .1 .1 .0) (a .1 .1 .1 .1 .0) r (now (end .1 .1 .1 .1 .1 .0)) (now (end .1 .0))) }

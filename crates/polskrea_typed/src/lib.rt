@@ -1,7 +1,7 @@
 // The library's typed entries for C and for Rust. They stand in a library of their own, so that the chunk call is compiled without them.
 ghost use mathlib.Core.List.{map};
-ghost use Rattle.typed.specs.Typed.{f64Bits, f32Bits, i64Bits, u8Bits, i32Bits, f64U8, f64I32, f32U8, f64F32, i64F32, typedInputs, bytesOf};
-ghost use Rattle.polskrea.specs.Entry.{Converted};
+ghost use Rattle.typed.specs.Typed.{f64Bits, f32Bits, i64Bits, u8Bits, i32Bits, f64U8, f64I32, f32U8, f64F32, i64F32};
+ghost use Rattle.polskrea_typed.specs.Exported.{Exported};
 use polskrea::Fields;
 use typed::Entry;
 use typed::EntryF32U8;
@@ -19,7 +19,7 @@ pub extern "C" fn polskrea_convert_f64_to_u8(
     range: u8,
     answer: &mut Fields,
 ) -> u8
-    ensures { λ r. ⌜ Converted (typedInputs 9 4 (map f64Bits (now (src .entry))) (map u8Bits (now (dst .entry))) (map f64U8 (now (entries .entry))) rounding range) r (now (answer .exit)) (bytesOf 1 (map u8Bits (now (dst .exit)))) ⌝ }
+    ensures { λ r. ⌜ Exported 9 4 (map f64Bits (now (src .entry))) (map u8Bits (now (dst .entry))) (map f64U8 (now (entries .entry))) rounding range r (now (answer .exit)) (map u8Bits (now (dst .exit))) ⌝ }
 {
     let a = typed::convert_f64_to_u8(src, dst, entries, rounding, range);
     polskrea::answered(a, answer)
@@ -35,7 +35,7 @@ pub extern "C" fn polskrea_convert_f64_to_i32(
     range: u8,
     answer: &mut Fields,
 ) -> u8
-    ensures { λ r. ⌜ Converted (typedInputs 9 2 (map f64Bits (now (src .entry))) (map i32Bits (now (dst .entry))) (map f64I32 (now (entries .entry))) rounding range) r (now (answer .exit)) (bytesOf 4 (map i32Bits (now (dst .exit)))) ⌝ }
+    ensures { λ r. ⌜ Exported 9 2 (map f64Bits (now (src .entry))) (map i32Bits (now (dst .entry))) (map f64I32 (now (entries .entry))) rounding range r (now (answer .exit)) (map i32Bits (now (dst .exit))) ⌝ }
 {
     let a = typed::convert_f64_to_i32(src, dst, entries, rounding, range);
     polskrea::answered(a, answer)
@@ -51,7 +51,7 @@ pub extern "C" fn polskrea_convert_f32_to_u8(
     range: u8,
     answer: &mut Fields,
 ) -> u8
-    ensures { λ r. ⌜ Converted (typedInputs 8 4 (map f32Bits (now (src .entry))) (map u8Bits (now (dst .entry))) (map f32U8 (now (entries .entry))) rounding range) r (now (answer .exit)) (bytesOf 1 (map u8Bits (now (dst .exit)))) ⌝ }
+    ensures { λ r. ⌜ Exported 8 4 (map f32Bits (now (src .entry))) (map u8Bits (now (dst .entry))) (map f32U8 (now (entries .entry))) rounding range r (now (answer .exit)) (map u8Bits (now (dst .exit))) ⌝ }
 {
     let a = typed::convert_f32_to_u8(src, dst, entries, rounding, range);
     polskrea::answered(a, answer)
@@ -67,7 +67,7 @@ pub extern "C" fn polskrea_convert_f64_to_f32(
     range: u8,
     answer: &mut Fields,
 ) -> u8
-    ensures { λ r. ⌜ Converted (typedInputs 9 8 (map f64Bits (now (src .entry))) (map f32Bits (now (dst .entry))) (map f64F32 (now (entries .entry))) rounding range) r (now (answer .exit)) (bytesOf 4 (map f32Bits (now (dst .exit)))) ⌝ }
+    ensures { λ r. ⌜ Exported 9 8 (map f64Bits (now (src .entry))) (map f32Bits (now (dst .entry))) (map f64F32 (now (entries .entry))) rounding range r (now (answer .exit)) (map f32Bits (now (dst .exit))) ⌝ }
 {
     let a = typed::convert_f64_to_f32(src, dst, entries, rounding, range);
     polskrea::answered(a, answer)
@@ -83,7 +83,7 @@ pub extern "C" fn polskrea_convert_i64_to_f32(
     range: u8,
     answer: &mut Fields,
 ) -> u8
-    ensures { λ r. ⌜ Converted (typedInputs 3 8 (map i64Bits (now (src .entry))) (map f32Bits (now (dst .entry))) (map i64F32 (now (entries .entry))) rounding range) r (now (answer .exit)) (bytesOf 4 (map f32Bits (now (dst .exit)))) ⌝ }
+    ensures { λ r. ⌜ Exported 3 8 (map i64Bits (now (src .entry))) (map f32Bits (now (dst .entry))) (map i64F32 (now (entries .entry))) rounding range r (now (answer .exit)) (map f32Bits (now (dst .exit))) ⌝ }
 {
     let a = typed::convert_i64_to_f32(src, dst, entries, rounding, range);
     polskrea::answered(a, answer)

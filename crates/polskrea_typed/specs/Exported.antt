@@ -1,0 +1,13 @@
+-- What an exported typed call returns: what the chunk call's entry returns, of the bytes that the elements, keys and targets have.
+-- Assumes nothing.
+use mathlib.Core.List.{List}
+use Prim.Native.Nat.{ℕ}
+use Rattle.kinds.specs.Codes.{kindOf}
+use Rattle.cast_spec.specs.Element.{Entry}
+use Rattle.cast_spec.specs.Chunk.{width}
+use Rattle.typed.specs.Typed.{typedInputs, bytesOf}
+use Rattle.polskrea.specs.Entry.{Converted}
+
+-- the patterns of source, destination and entries, the number and the words that come back, and the destination's patterns at exit
+abbrev pub Exported : ℕ → ℕ → List ℕ → List ℕ → List Entry → ℕ → ℕ → ℕ → List ℕ → List ℕ → Type 0
+Exported from to src dst es rounding range n words dst′ = Converted (typedInputs from to src dst es rounding range) n words (bytesOf (width (kindOf to)) dst′)
