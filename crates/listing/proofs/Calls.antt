@@ -18,9 +18,12 @@ use Rattle.cast_spec.specs.Chunk.{Inputs, inputs, width, answerOf, destinationO
 use Rattle.cast_spec.specs.Demand3.{Contract}
 use Rattle.chunk.proofs.Elements.{listed-width}
 use Rattle.chunk.proofs.Exits.{width-pos}
-use Rattle.listing.specs.Listing.{report, reportOf, chunkOf}
+use Rattle.text.specs.Wrote.{Wrote}
+use Rattle.report.specs.Report.{report}
+use Rattle.report.specs.Room.{ReportIn}
+use Rattle.listing.specs.Listing.{reportOf, chunkOf}
 use Rattle.bytes_le.specs.Bytes.{Width}
-use Rattle.listing.specs.Parts.{Wrote, ReportIn, CallIn}
+use Rattle.listing.specs.Parts.{CallIn}
 use Rattle.listing.proofs.Unchanged.{position-counted, same-report}
 
 -- ---- the widths of listed kinds

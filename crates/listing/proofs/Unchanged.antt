@@ -15,7 +15,8 @@ use Rattle.kinds.specs.declared.Answer.the-variants as A
 use Rattle.kinds.specs.declared.Outcome.{Outcome}
 use Rattle.kinds.specs.declared.Outcome.the-variants.{Stored, NanOrInf, OutOfRange, FloatOutOfRange}
 use Rattle.cast_spec.specs.Chunk.{Inputs, inputs, sw, dw, codesListed, mapWhole, bytesWhole, countsMeet, callOf, settingsOf, outcomeAt, answerNext, answerFrom, answerOf, bytesNext, bytesFrom, destinationOf}
-use Rattle.listing.specs.Listing.{converted, firstLine, line, lines, report, reportOf}
+use Rattle.report.specs.Report.{converted, firstLine, line, lines, report}
+use Rattle.listing.specs.Listing.{reportOf}
 
 -- how many elements an answer converts of n
 abbrev shown : Answer → ℕ → ℕ

@@ -2,16 +2,14 @@
 -- Assumes nothing.
 use mathlib.Core.Path.{_≡_}
 use mathlib.Core.Bool.{_&&_, cond}
-use mathlib.Core.List.{List, [], _++_}
-use Prim.Native.Nat.{ℕ, zero, suc, _+_, _*_, _/_, _≤_}
+use mathlib.Core.List.{List, _++_}
+use Prim.Native.Nat.{ℕ, _+_, _*_, _/_, _≤_}
 use lib.Dec.{eqb, ltb, leb}
 use lib.ListN.{length, getD, take, drop, replicate}
-use Rattle.bytes_le.specs.Bytes.{fromLe, patternAt}
-use Rattle.kinds.specs.Answer.{numberOf, positionOf}
+use Rattle.bytes_le.specs.Bytes.{fromLe}
 use Rattle.kinds.specs.Codes.{kindOf}
-use Rattle.kinds.specs.declared.Answer.{Answer}
 use Rattle.cast_spec.specs.Chunk.{Inputs, inputs, width, sw, dw, codesListed, answerOf, destinationOf}
-use Rattle.listing.specs.Text.{digits, decimal, ok, refused, at, newline}
+use Rattle.report.specs.Report.{refusedLine, report}
 
 -- the chunk call into zeros, as many elements as the source; what stands there before the call shows in no line
 abbrev pub chunkOf : List ℕ → List ℕ → List ℕ → ℕ → ℕ → ℕ → ℕ → Inputs
@@ -49,51 +47,23 @@ module _ (s : List ℕ) where
   abbrev pub call : Inputs
   call = chunkOf elements keys targets (getD s 0 0) (getD s 1 0) (getD s 2 0) (getD s 3 0)
 
--- ---- lines
-
--- "`ok` and the element count"
-abbrev pub okLine : ℕ → List ℕ
-okLine n = ok ++ (decimal n ++ newline)
-
--- "`refused`, the number and, for 5 to 7, `at` and the position"
-abbrev pub refusedLine : ℕ → ℕ → List ℕ
-refusedLine number position = refused ++ (decimal number ++ (cond (ltb number 5) [] (at ++ decimal position) ++ newline))
-
--- "First line", of an answer to a call of n elements
-abbrev pub firstLine : ℕ → ℕ → ℕ → List ℕ
-firstLine number position n = cond (eqb number 0) (okLine n) (refusedLine number position)
-
--- how many elements are converted: all, or those before the position; the refusals 1 to 4 convert none, and their position is 0
-abbrev pub converted : ℕ → ℕ → ℕ → ℕ
-converted number position n = cond (eqb number 0) n position
-
--- an element "on a line, lowercase hexadecimal, highest byte first": two digits for each of its w bytes
-abbrev pub line : ℕ → ℕ → List ℕ
-line w v = digits 16 (2 * w) v ++ newline
-
--- k lines, of the elements from the position i on in a destination d
-abbrev pub lines : ℕ → List ℕ → ℕ → ℕ → List ℕ
-lines w d i zero = []
-lines w d i (suc k) = line w (patternAt w d i) ++ lines w d (suc i) k
-
--- the first line, "Then each converted element on a line"
-abbrev pub report : Answer → ℕ → ℕ → List ℕ → List ℕ
-report r n w d = firstLine (numberOf r) (positionOf r) n ++ lines w d 0 (converted (numberOf r) (positionOf r) n)
-
 abbrev pub reportOf : Inputs → List ℕ
 reportOf I = report (answerOf I) (length (I .source) / sw I) (dw I) (destinationOf I)
 
 -- ---- "Fewer than six bytes prints `refused 1`, missing map bytes `refused 2`, a broken last element or longer input `refused 3`;
 -- a bad code comes before these last two. A map reaching past byte 8,192 counts as missing."
--- The chunk call refuses a broken last element, as 3.
-unfoldable pub listingOf : List ℕ → List ℕ
-listingOf s =
-    cond (ltb (length s) 6) (refusedLine 1 0)
+-- The number that an input is refused with before its call, or 0. The chunk call refuses a broken last element, as 3.
+unfoldable pub refusalOf : List ℕ → ℕ
+refusalOf s =
+    cond (ltb (length s) 6) 1
     (cond (codesListed (call s))
     (cond (leb (mapEnd s) 8192 && leb (mapEnd s) (length s))
-    (cond (leb (length s) 8192) (reportOf (call s)) (refusedLine 3 0))
-    (refusedLine 2 0))
-    (refusedLine 1 0))
+    (cond (leb (length s) 8192) 0 3)
+    2)
+    1)
+
+unfoldable pub listingOf : List ℕ → List ℕ
+listingOf s = cond (eqb (refusalOf s) 0) (reportOf (call s)) (refusedLine (refusalOf s) 0)
 
 -- the listing of s stands at the start of what was d, r is its length, and the other bytes stay
 pub record Listed (s d : List ℕ) (r : ℕ) (d′ : List ℕ) : Type 0 where

@@ -1,39 +1,10 @@
--- What the parts of the listing write: bytes at a place of a lent buffer, and all else kept.
+-- What the parts of the listing ask, and where those of an input start.
 -- Assumes nothing.
-use mathlib.Core.Path.{_≡_}
-use mathlib.Core.List.{List, _++_}
-use Prim.Native.Nat.{ℕ, _+_, _*_, _≤_, _<_}
-use lib.ListN.{length, getD, take, drop}
-use Rattle.bytes_le.specs.Bytes.{Place, Width}
-use Rattle.kinds.specs.Answer.{positionOf}
-use Rattle.kinds.specs.declared.Answer.{Answer}
+use mathlib.Core.List.{List}
+use Prim.Native.Nat.{ℕ, _≤_, _<_}
+use lib.ListN.{length, getD}
 use Rattle.listing.specs.declared.Layout.{Layout}
 use Rattle.listing.specs.Listing.{keysEnd, mapEnd}
-
--- xs stands at the place a of what was d; r is the place after it
-pub record Wrote (d : List ℕ) (a : ℕ) (xs : List ℕ) (r : ℕ) (d′ : List ℕ) : Type 0 where
-  pub next : r ≡ a + length xs
-  pub within : r ≤ length d
-  pub bytes : d′ ≡ take a d ++ (xs ++ drop r d)
-
--- a line of two digits for each byte and its end fits at the place a of d
-pub record LineIn (d : List ℕ) (a : ℕ) (bytes : List ℕ) (from w : ℕ) : Type 0 where
-  pub place : Place bytes from w
-  pub room : a + (2 * w + 1) ≤ length d
-
--- k elements of w bytes lie within bytes, and their lines fit at the place a of d
-pub record LinesIn (d : List ℕ) (a : ℕ) (bytes : List ℕ) (w k : ℕ) : Type 0 where
-  pub width : Width w
-  pub whole : k * w ≤ length bytes
-  pub room : a + k * (2 * w + 1) ≤ length d
-
--- an answer to a call of n elements, and room for a first line of at most 18 bytes and n lines
-pub record ReportIn (d bytes : List ℕ) (r : Answer) (n w : ℕ) : Type 0 where
-  pub width : Width w
-  pub few : n < 10000
-  pub position : positionOf r ≤ n
-  pub whole : n * w ≤ length bytes
-  pub room : 18 + n * (2 * w + 1) ≤ length d
 
 -- the six bytes are there, and the kinds are listed
 pub record HeadIn (s : List ℕ) : Type 0 where

@@ -12,8 +12,8 @@ use Rattle.patterns.specs.Pattern.{patternOf, nanPattern}
 use Rattle.bytes_le.specs.Bytes.{toLe}
 use Rattle.cast_spec.specs.Element.{beyond, outcomeOf}
 use Rattle.cast_spec.specs.Chunk.{settingsOf, callOf, outcomeAt, answerOf, destinationOf}
-use Rattle.listing.specs.Text.{ok, refused, at}
-use Rattle.listing.specs.Listing.{listingOf}
+use Rattle.report.specs.Report.{ok, refused, at}
+use Rattle.listing.specs.Listing.{refusalOf, listingOf}
 
 pub record Sample : Type 0 where
   pub input : List ℕ
@@ -48,5 +48,5 @@ samples =
     ∷ []
 
 pub samples-hold : map (λ (s : Sample). listingOf (s .input)) samples ≡ map (λ (s : Sample). s .wanted) samples
-unfolding samples listingOf answerOf destinationOf callOf settingsOf outcomeAt outcomeOf beyond nanPattern patternOf valueOf lowest highest pick bitsMag size
+unfolding samples listingOf refusalOf answerOf destinationOf callOf settingsOf outcomeAt outcomeOf beyond nanPattern patternOf valueOf lowest highest pick bitsMag size
 samples-hold = refl
