@@ -12,7 +12,6 @@ use Rattle.grid.specs.Grid.{OnGrid, float}
 use Rattle.patterns.specs.Kind.{Kind, InRange, integer, binary, f32, f64, bits, lowInt, highInt}
 use Rattle.patterns.specs.Value.{num, valueOf}
 use Rattle.kinds.specs.Codes.{kindOf}
-use Rattle.patterns.specs.Pattern.{lowBits}
 use Rattle.kinds.specs.declared.OutOfRangeMode.{OutOfRangeMode}
 use Rattle.kinds.specs.declared.Outcome.{Outcome}
 use Rattle.kinds.specs.declared.Outcome.the-variants.{Stored, OutOfRange}

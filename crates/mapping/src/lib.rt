@@ -6,7 +6,7 @@ ghost use Rattle.patterns.specs.Kind.{f32, f64};
 ghost use Rattle.patterns.specs.Value.{valueOf};
 ghost use Rattle.kinds.specs.Codes.{kindOf};
 ghost use Rattle.cast_spec.specs.Element.{matches};
-ghost use Rattle.cast_spec.specs.Chunk.{width, entriesFrom};
+ghost use Rattle.cast_spec.specs.Chunk.{entriesFrom};
 ghost use Rattle.mapping.specs.Map.{FloatPatterns, FloatMap, IntegerMap, lookupOf};
 
 // What a lookup gives: the target pattern of the first matching entry, or none.

@@ -1,5 +1,4 @@
 // What a chunk call reports: a first line, then a line for each converted element.
-ghost use mathlib.Core.Path.{_≡_};
 ghost use Prim.Native.Nat.{_<_, _≤_};
 ghost use lib.ListN.{length, take, drop};
 ghost use Rattle.bytes_le.specs.Bytes.{fromLe};

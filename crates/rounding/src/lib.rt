@@ -1,6 +1,6 @@
 // Rounding by a rule on bits: digits dropped, a float to a whole number as a float and as an integer, an f64 to a narrower float.
 ghost use mathlib.Core.Path.{_≡_};
-ghost use Prim.Native.Nat.{_+_, _-_, _*_, _/_, _%_, _^_, _<_, _≤_, min};
+ghost use Prim.Native.Nat.{_+_, _-_, _*_, _/_, _%_, _^_, _<_, min};
 ghost use Rattle.grid.specs.Grid.{whole, float};
 ghost use Rattle.grid.specs.Round.{step, pickMag, ruleFor};
 ghost use Rattle.patterns.specs.Float.{bitsMag, fieldMag};
