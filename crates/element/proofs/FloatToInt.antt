@@ -27,7 +27,7 @@ use Rattle.grid.proofs.Neighbours.{cut}
 use Rattle.kinds.specs.Codes.{kindOf}
 use Rattle.grid.specs.Round.{pick, ruleFor, signed}
 use Rattle.rounding.specs.Rounding.{wholeMag, wholeOf}
-use Rattle.rounding.proofs.WholePart.{whole-times-unit}
+use Rattle.rounding.proofs.Units.{whole-times-unit}
 use Rattle.grid.proofs.Kept.{pick-signed}
 
 -- ---- the two float codes

@@ -2,5 +2,6 @@ pub mod Biased
 pub mod Carried
 pub mod WholeBits
 pub mod Patterns
+pub mod Units
 pub mod Narrow
 pub mod WholePart

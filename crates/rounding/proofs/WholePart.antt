@@ -1,8 +1,8 @@
--- An f64 rounded to a whole number, by its exponent field: for a unit of 2^K, of which 1022 + 52 is the f64's own.
+-- An f64 rounded to a whole number, by its exponent field: from 2^52 on all are whole.
 -- Assumes nothing.
 use mathlib.Core.Path.{_≡_, sym, ap, ap₂, _∙_, refl}
 use mathlib.Core.Bool.{Bool, false, true}
-use Prim.Native.Nat.{suc, min, ℕ, _+_, _-_, _*_, _/_, _%_, _^_, _≤_, _<_}
+use Prim.Native.Nat.{suc, ℕ, _+_, _-_, _*_, _/_, _%_, _^_, _≤_, _<_}
 use native.Mathlib.Nat.{lt-of-lt-of-le, mod-eq-of-lt, mul-div-cancel, mul-assoc, add-zero, le-of-eq, le-trans, mul-le-mul-right, mul-mod-left}
 use native.Mathlib.Omega.{arith}
 use lib.Bits.{bitAnd, and-mask, mask-lt}
@@ -13,14 +13,10 @@ use Rattle.patterns.proofs.Encode.{normal-bits}
 use Rattle.rounding.specs.declared.Whole.{Whole}
 use Rattle.patterns.specs.Float.{bitsMag, fieldMag}
 use Rattle.patterns.specs.Value.{negative}
-use Rattle.rounding.specs.Rounding.{Dropped, wholeStep, wholeMag, wholeOf}
+use Rattle.rounding.specs.Rounding.{unitsOf, wholeMag, wholeOf}
 use Rattle.rounding.proofs.WholeBits.{whole-already}
-use Rattle.rounding.proofs.Narrow.{capped}
-use Rattle.grid.proofs.Kept.{pick-shift}
 use Rattle.grid.specs.declared.RoundingMode.{RoundingMode}
-use Rattle.grid.specs.declared.RoundingMode.the-variants.{TowardsZero}
-use Rattle.grid.specs.Grid.{whole}
-use Rattle.grid.specs.Round.{pickMag, ruleFor, step}
+use Rattle.grid.specs.Round.{ruleFor}
 use Rattle.grid.proofs.Neighbours.{cut}
 
 -- ---- the fields of a pattern, by masks
@@ -29,64 +25,6 @@ field-is b = field b 11 52 ∙ sym (and-mask (b / 2 ^ 52) 11)
 
 fraction-is : (b : ℕ) → b % 2 ^ 63 % 2 ^ 52 ≡ bitAnd b (2 ^ 52 - 1)
 fraction-is b = mod-mod-pow b 11 52 ∙ sym (and-mask b 52)
-
--- ---- so many times 2^K, for a step at that spacing
-over-unit : (r : RoundingMode) (K n q : ℕ) → pickMag (whole K) r n ≡ q * 2 ^ K → pickMag (whole K) r n / 2 ^ K ≡ q
-over-unit r K n q e = ap (λ (z : ℕ). z / 2 ^ K) e ∙ mul-div-cancel q (pow-pos K)
-
-pub whole-times-unit : (r : RoundingMode) (K n : ℕ) → pickMag (whole K) r n ≡ pickMag (whole K) r n / 2 ^ K * 2 ^ K
-unfolding pickMag
-whole-times-unit r K n = ap (λ (z : ℕ). z * 2 ^ K) (sym (over-unit r K n _ refl))
-
--- towards zero the pick is the whole part
-pub towards-zero : (neg : Bool) (K n : ℕ) → pickMag (whole K) (ruleFor neg TowardsZero) n / 2 ^ K ≡ n / 2 ^ K
-unfolding pickMag
-towards-zero true K n = over-unit TowardsZero K n (n / 2 ^ K) refl
-towards-zero false K n = over-unit TowardsZero K n (n / 2 ^ K) refl
-
-module _ (r : RoundingMode) (K t : ℕ) (k : K ≡ 52 + 1022) (small : t < 2 ^ 52) where
-  -- exponent field 0: far below 1
-  pub subnormal-whole : (x n : ℕ) → x ≡ 0 → n ≡ step r (t / 2 ^ 63) (t % 2 ^ 63) (2 ^ 63) → n ≡ pickMag (whole K) r (fieldMag 53 0 x t) / 2 ^ K
-  unfolding fieldMag pickMag
-  subnormal-whole x n z e =
-      e
-      ∙ ap (λ (j : ℕ). step r (t / 2 ^ j) (t % 2 ^ j) (2 ^ j)) (most K k)
-      ∙ capped r t K (omega arith)
-      ∙ ap (λ (i : ℕ). step r (i / 2 ^ K) (i % 2 ^ K) (2 ^ K)) (alone t)
-      ∙ sym (ap (λ (f : ℕ). pickMag (whole K) r (fieldMag 53 0 f t) / 2 ^ K) z ∙ over-unit r K (t * 2 ^ 0) _ refl)
-    where
-      most : (K : ℕ) → K ≡ 1074 → 63 ≡ min K 63
-      most K k = omega arith
-
-      alone : (t : ℕ) → t ≡ t * 2 ^ 0
-      alone t = omega arith
-
-  -- another, below that of 2^52: digits of the significand are dropped
-  module _ (x : ℕ) (some : x ≡ 0 → ⊥) (under : x < 1075) where
-    pub normal-asks : (j : ℕ) → j ≡ min (1075 - x) 63 → Dropped (t + 2 ^ 52) j
-    normal-asks j e = record { some = omega arith; few = omega arith; room = omega (arith, pow-mono {i = j} {j = 63} (omega arith)) }
-
-    pub normal-whole : (j n : ℕ) → j ≡ min (1075 - x) 63 → n ≡ step r ((t + 2 ^ 52) / 2 ^ j) ((t + 2 ^ 52) % 2 ^ j) (2 ^ j) → n ≡ pickMag (whole K) r (fieldMag 53 0 x t) / 2 ^ K
-    unfolding fieldMag
-    normal-whole j n J e =
-        let m = t + 2 ^ 52 in
-        let y = x - 1 in
-        e
-        ∙ ap (λ (i : ℕ). step r (m / 2 ^ i) (m % 2 ^ i) (2 ^ i)) J
-        ∙ capped r m (1075 - x) (omega arith)
-        ∙ ap (λ (i : ℕ). step r (m / 2 ^ i) (m % 2 ^ i) (2 ^ i)) (left K x k some under)
-        ∙ sym (over-unit r K (m * 2 ^ (y + 0)) _ (pick-shift (whole K) r m (y + 0) (omega arith) (omega arith)))
-        ∙ ap (λ (i : ℕ). pickMag (whole K) r (i * 2 ^ (y + 0)) / 2 ^ K) (swap t (2 ^ 52))
-        ∙ ap (λ (f : ℕ). pickMag (whole K) r (fieldMag 53 0 f t) / 2 ^ K) (back x some)
-      where
-        left : (K x : ℕ) → K ≡ 1074 → (x ≡ 0 → ⊥) → x < 1075 → 1075 - x ≡ K - (x - 1 + 0)
-        left K x k s u = omega arith
-
-        swap : (a b : ℕ) → a + b ≡ b + a
-        swap a b = omega arith
-
-        back : (x : ℕ) → (x ≡ 0 → ⊥) → suc (x - 1) ≡ x
-        back x s = omega arith
 
 -- ---- the fields of an f64
 module _ (mode : RoundingMode) (b : ℕ) where
@@ -127,10 +65,10 @@ module _ (mode : RoundingMode) (b : ℕ) where
   whole-at q c d e = ap₂ {C = Whole} (λ (q : ℕ) (c : Bool). record { negative = leb (2 ^ 63) b; magnitude = q; far = c }) (sym d) (sym e)
 
   -- below 2^52, with the rounded magnitude q
-  pub low-is : (q : ℕ) → q < 2 ^ 64 → q ≡ wholeStep (ruleFor (leb (2 ^ 63) b) mode) (fieldMag 53 0 f (bitAnd b (2 ^ 52 - 1))) → record { negative = leb (2 ^ 63) b; magnitude = q; far = false } ≡ wholeOf mode b
+  pub low-is : (q : ℕ) → q < 2 ^ 64 → q ≡ unitsOf 1074 (ruleFor (leb (2 ^ 63) b) mode) (fieldMag 53 0 f (bitAnd b (2 ^ 52 - 1))) → record { negative = leb (2 ^ 63) b; magnitude = q; far = false } ≡ wholeOf mode b
   unfolding bitsMag
   low-is q s e =
-      let is : N ≡ q = ap₂ (λ (x t : ℕ). wholeStep (ruleFor (leb (2 ^ 63) b) mode) (fieldMag 53 0 x t)) (field-is b) (fraction-is b) ∙ sym e in
+      let is : N ≡ q = ap₂ (λ (x t : ℕ). unitsOf 1074 (ruleFor (leb (2 ^ 63) b) mode) (fieldMag 53 0 x t)) (field-is b) (fraction-is b) ∙ sym e in
       whole-at q false (ap (λ (z : ℕ). z % 2 ^ 64) is ∙ mod-eq-of-lt s) (ap (leb (2 ^ 64)) is ∙ lt-leb (2 ^ 64) q s)
 
   -- from 2^52 on: whole already

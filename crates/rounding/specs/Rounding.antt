@@ -58,12 +58,18 @@ roundedFrom k r b nan = b
 abbrev pub roundedOf : Kind → RoundingMode → ℕ → ℕ
 roundedOf k r b = roundedFrom k r b (valueOf k b)
 
--- how many times 1 the pick on the whole numbers is, of a magnitude of n times 2^-1074
-abbrev pub wholeStep : RoundingMode → ℕ → ℕ
-wholeStep r n = pickMag (whole 1074) r n / 2 ^ 1074
+-- how many times 2^K the pick on the multiples of 2^K is, of a magnitude n
+abbrev pub unitsOf : ℕ → RoundingMode → ℕ → ℕ
+unitsOf K r n = pickMag (whole K) r n / 2 ^ K
+
+-- an exponent field and a fraction of an f64, and a higher field, whose spacing is the unit
+pub record UnitIn (field fraction unit : ℕ) : Type 0 where
+  pub below : field < unit
+  pub least : 64 ≤ unit
+  pub small : fraction < 2 ^ 52
 
 abbrev pub wholeMag : RoundingMode → ℕ → ℕ
-wholeMag r b = wholeStep (ruleFor (leb (2 ^ 63) b) r) (bitsMag 53 0 (b % 2 ^ 63))
+wholeMag r b = unitsOf 1074 (ruleFor (leb (2 ^ 63) b) r) (bitsMag 53 0 (b % 2 ^ 63))
 
 -- an f64's pick on the whole numbers, as a program holds it
 abbrev pub wholeOf : RoundingMode → ℕ → Whole

@@ -5,7 +5,7 @@ ghost use Rattle.grid.specs.Grid.{whole, float};
 ghost use Rattle.grid.specs.Round.{step, pickMag, ruleFor};
 ghost use Rattle.patterns.specs.Float.{bitsMag, fieldMag};
 ghost use Rattle.patterns.specs.Kind.{f32, f64};
-ghost use Rattle.rounding.specs.Rounding.{biasOf, Dropped, quartersOf, WholeIn, NarrowIn, roundedOf, wholeStep, wholeOf};
+ghost use Rattle.rounding.specs.Rounding.{biasOf, Dropped, quartersOf, WholeIn, NarrowIn, roundedOf, unitsOf, UnitIn, wholeOf};
 use grid::RoundingMode;
 
 // What is added to a number before its lowest digits are dropped: q is the kept part, and h is all ones in the dropped digits.
@@ -97,17 +97,17 @@ pub struct Whole {
     pub far: bool,
 }
 
-// The magnitude of an f64 below 2^52, of this exponent field and fraction, rounded to a whole number.
-fn round_fraction(field: u64, fraction: u64, mode: RoundingMode, negative: bool) -> u64
-    requires { ⌜ (field < 1075) × (fraction < 2 ^ 52) ⌝ }
-    ensures { λ r. ⌜ r ≡ wholeStep (ruleFor negative mode) (fieldMag 53 0 field fraction) ⌝ }
+// The magnitude of an f64 of this exponent field and fraction, rounded to the spacing of the field `unit` and counted in it.
+fn round_to_units(field: u64, fraction: u64, unit: u64, mode: RoundingMode, negative: bool) -> u64
+    requires { ⌜ UnitIn field fraction unit ⌝ }
+    ensures { λ r. ⌜ r ≡ unitsOf (unit - 1) (ruleFor negative mode) (fieldMag 53 0 field fraction) ⌝ }
 {
     if field == 0 {
         return round_shift(fraction, 63, mode, negative);
     }
     round_shift(
         fraction + 0x10_0000_0000_0000,
-        at_most_63(1075 - field),
+        at_most_63(unit - field),
         mode,
         negative,
     )
@@ -123,7 +123,7 @@ pub fn round_to_whole(b: u64, mode: RoundingMode) -> Whole
     if field < 1075 {
         return Whole {
             negative: negative,
-            magnitude: round_fraction(field, fraction, mode, negative),
+            magnitude: round_to_units(field, fraction, 1075, mode, negative),
             far: false,
         };
     }
@@ -151,15 +151,8 @@ fn narrow_magnitude(x: u64, drop: u32, base: u64, mode: RoundingMode, negative: 
         return round_shift(x - (base << 52), drop, mode, negative);
     }
     let fraction = x & 0xf_ffff_ffff_ffff;
-    if field == 0 {
-        return round_shift(fraction, 63, mode, negative);
-    }
-    round_shift(
-        fraction + 0x10_0000_0000_0000,
-        at_most_63(base + (drop as u64) - (field - 1)),
-        mode,
-        negative,
-    )
+    let unit = base + (drop as u64) + 1;
+    round_to_units(field, fraction, unit, mode, negative)
 }
 
 // The bits x below an f64's sign rounded to f32; those of an infinity or more where f32 is overrun.

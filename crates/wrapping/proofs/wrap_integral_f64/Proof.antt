@@ -9,7 +9,7 @@ use Rattle.grid.specs.declared.RoundingMode.the-variants.{TowardsZero}
 use Rattle.patterns.specs.Float.{bitsMag}
 use Rattle.rounding.specs.declared.Whole.{Whole}
 use Rattle.rounding.specs.Rounding.{wholeMag}
-use Rattle.rounding.proofs.WholePart.{towards-zero}
+use Rattle.rounding.proofs.Units.{towards-zero}
 use Rattle.wrapping.proofs.Residues.{low-bits-mod}
 use borrow.Author.Needs.{needs}
 use Rattle.wrapping.proofs.wrap_integral_f64.Statement.{statement}
