@@ -24,7 +24,7 @@ pub fn fields(a: Answer) -> Fields
             value,
             lo,
             hi,
-        } => [position as u64, value, typed::bits_i64(lo), hi],
+        } => [position as u64, value, typed_values::bits_i64(lo), hi],
         Answer::FloatOutOfRange {
             position,
             value,

@@ -1,13 +1,14 @@
 // The library's typed entries for C and for Rust. They stand in a library of their own, so that the chunk call is compiled without them.
 ghost use mathlib.Core.List.{map};
-ghost use Rattle.typed.specs.Typed.{f64Bits, f32Bits, i64Bits, u8Bits, i32Bits, f64U8, f64I32, f32U8, f64F32, i64F32};
+ghost use Rattle.typed_values.specs.Bits.{f64Bits, f32Bits, i64Bits, u8Bits, i32Bits};
+ghost use Rattle.typed_entries.specs.Entries.{f64U8, f64I32, f32U8, f64F32, i64F32};
 ghost use Rattle.polskrea_typed.specs.Exported.{Exported};
 use polskrea::Fields;
-use typed::Entry;
-use typed::EntryF32U8;
-use typed::EntryF64I32;
-use typed::EntryF64U8;
-use typed::EntryI64F32;
+use typed_entries::Entry;
+use typed_entries::EntryF32U8;
+use typed_entries::EntryF64I32;
+use typed_entries::EntryF64U8;
+use typed_entries::EntryI64F32;
 
 // Converts f64 elements to u8 with a slice of entries, returns the answer's number, 0 to 7, and leaves its fields in `answer`.
 #[no_mangle]

@@ -52,11 +52,11 @@ use Rattle.mapping.proofs.Lookup.Laws as F′
 use Rattle.mapping.specs.Map.{lookupOf}
 use Rattle.mapping.proofs.Lookup as F
 use Rattle.mapping.specs.declared.Lookup.{Lookup}
+use Rattle.typed_entries.proofs.Lookups.{EntryType}
 use Rattle.typed.proofs.State.Laws as S′
 use Rattle.typed.proofs.State as S
 use Rattle.typed.specs.declared.State.{State}
 use Rattle.typed.specs.Typed.{TypedContract}
-use Rattle.typed.proofs.Lookups.{EntryType}
 use Rattle.typed.proofs.Again.{LentAgain, lends-again, comes-back}
 use Rattle.typed.proofs.Turns.{Elements, Inv, left, starts, asks, turns}
 use Rattle.typed.specs.Loop.{startOf, outcomeFor, nextState, storedIn}

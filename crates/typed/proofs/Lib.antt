@@ -1,14 +1,10 @@
 pub mod Again
 pub mod Conversions
-pub mod EntryTypes
 pub mod LendArray
-pub mod Lookups
 pub mod Pairs
 pub mod Parts
-pub mod Patterns
 pub mod Places
 pub mod RefusedNan
-pub mod Signed
 pub mod Stored
 pub mod Threes
 pub mod Turns

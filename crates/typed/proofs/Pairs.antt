@@ -3,46 +3,29 @@
 use mathlib.Core.Bool.{true}
 use mathlib.Core.Path.{_≡_, refl, ap, subst, sym, _∙_}
 use mathlib.Core.List.{List, [], _∷_, map}
-use Prim.Native.Nat.{ℕ, _%_, _^_, _<_}
-use native.Mathlib.Nat.{mod-lt, mod-mod}
-use lib.Ieee.{Float, binary32, binary64}
+use Prim.Native.Nat.{ℕ, _%_}
+use native.Mathlib.Nat.{mod-mod}
+use lib.Ieee.{Float, binary64}
 use lib.IntN.{ℤ}
 use lib.Dec.{lit<}
 use denote.Builtin as B
 use Rattle.bytes_le.specs.Bytes.{toLe}
-use Rattle.patterns.proofs.AnyKind.{unit-pos}
 use Rattle.patterns.specs.Pattern.{nanPattern}
-use Rattle.patterns.proofs.Integers.{low-bits-lt}
 use Rattle.patterns.specs.Kind.{f64}
 use Rattle.kinds.specs.declared.Outcome.the-variants.{Stored}
 use Rattle.cast_spec.specs.Element.{outcomeOf}
-use Rattle.typed.proofs.Signed.{again}
-use Rattle.typed.specs.Typed.{f64Bits, f32Bits, i64Bits, u8Bits, i32Bits, f64U8, f64I32, f32U8, f64F32, i64F32}
-use Rattle.typed.proofs.Stored.{Back, quiet, quiet-kept, no-integer-nan, bits-are-back, read-back, stored-back}
+use Rattle.typed_values.proofs.Signed.{again}
+use Rattle.typed_values.specs.Bits.{f64Bits, f32Bits, i64Bits, u8Bits, i32Bits, u8Of, i32Of, f32Of}
+use Rattle.typed_values.proofs.Nans.{Back, quiet, quiet-kept, no-integer-nan, bits-are-back}
+use Rattle.typed_values.proofs.Fits.{f64-fits, f32-fits, i64-fits, i32-fits, u8-fits}
+use Rattle.typed_entries.specs.Entries.{f64U8, f64I32, f32U8, f64F32, i64F32}
+use Rattle.typed_entries.specs.declared.EntryI64F32.{EntryI64F32}
+use Rattle.typed_entries.specs.declared.Entry.{Entry}
+use Rattle.typed_entries.proofs.EntryTypes as entries
+use Rattle.typed.proofs.Stored.{read-back, stored-back}
 use Rattle.typed.proofs.Turns.{settings}
-use Rattle.typed.specs.declared.EntryI64F32.{EntryI64F32}
-use Rattle.typed.proofs.Patterns.{bits-below}
-use Rattle.typed.specs.declared.Entry.{Entry}
-use Rattle.typed.proofs.EntryTypes as entries
 use Rattle.typed.proofs.Conversions.{Pair}
 use Rattle.typed.proofs.Places.{low-bytes}
-use Rattle.typed.specs.Loop.{u8Of, i32Of, f32Of}
-
--- ---- patterns fit
-pub f64-fits : (x : Float) → f64Bits x < 2 ^ 64
-f64-fits = bits-below binary64
-
-pub f32-fits : (x : Float) → f32Bits x < 2 ^ 32
-f32-fits = bits-below binary32
-
-pub i64-fits : (z : ℤ) → i64Bits z < 2 ^ 64
-i64-fits z = low-bits-lt true 64 (2 ^ 1074) (lit< tt) unit-pos z
-
-pub i32-fits : (z : ℤ) → i32Bits z < 2 ^ 32
-i32-fits z = low-bits-lt true 32 (2 ^ 1074) (lit< tt) unit-pos z
-
-pub u8-fits : (b : ℕ) → u8Bits b < 2 ^ 8
-u8-fits b = mod-lt b (lit< tt)
 
 -- ---- a stored pattern is that of the element then
 pub u8-kept : (b : ℕ) → toLe 1 (u8Bits (u8Of b)) ≡ toLe 1 b

@@ -1,23 +1,21 @@
 -- A pattern that a conversion to f32 stores is no NaN's but the quiet one, where the elements' and the targets' patterns are so: it is the one that the f32 read from it has.
 -- Assumes nothing.
-use mathlib.Core.Bool.{Bool, true, false, not, cond, _&&_}
+use mathlib.Core.Bool.{Bool, true, false, cond, _&&_}
 use mathlib.Core.Path.{_≡_, refl, sym, ap, subst, _∙_}
 use mathlib.Core.List.{List, [], _∷_, map}
-use Prim.Native.Nat.{ℕ, _%_, _^_, _<_}
+use Prim.Native.Nat.{ℕ, _%_, _^_}
 use native.Mathlib.Omega.{arith}
 use native.Mathlib.Nat.{mod-eq-of-lt}
-use lib.Ieee.Bits.{ofBits-fits, toBits-ofBits}
+use lib.Ieee.Bits.{ofBits-fits}
 use lib.IntN.{ℤ, pos, natAbs}
 use lib.Signed.{_≤ℤ_, leZ, leZ-yes}
-use lib.Ieee as F
-use lib.Ieee.{Float, Format, binary32, binary64, fits, isNan, ofBits, toBits}
+use lib.Ieee.{binary32, fits, ofBits, toBits}
 use lib.Dec.{T, lit<, lit≤}
 use Rattle.grid.specs.Round.{pick, signed}
 use Rattle.grid.specs.Grid.{OnGrid}
 use Rattle.grid.proofs.Picked.{picked}
 use Rattle.bytes_le.specs.Bytes.{toLe}
-use Rattle.patterns.proofs.Ieee.{Agrees, kindFor, agree}
-use Rattle.patterns.specs.Kind.{Kind, integer, f32, f64, gridOf, lowest, highest, InRange, WellFormed}
+use Rattle.patterns.specs.Kind.{Kind, f32, gridOf, lowest, highest, InRange, WellFormed}
 use Rattle.patterns.specs.Pattern.{patternOf, infinity, nanPattern, asF64}
 use Rattle.patterns.proofs.Floats.{inf-back, inf-fits}
 use Rattle.patterns.specs.Value.{Value, nan, inf, num, negative, valueOf}
@@ -27,45 +25,10 @@ use Rattle.kinds.specs.declared.OutOfRangeMode.the-variants.{None, Clamp, Wrap}
 use Rattle.kinds.specs.declared.Outcome.{Outcome}
 use Rattle.kinds.specs.declared.Outcome.the-variants.{Stored, NanOrInf, OutOfRange, FloatOutOfRange}
 use Rattle.cast_spec.specs.Element.{Entry, Settings, matches, mapped, ranged, beyond, converted, outcomeOf}
-use Rattle.typed.specs.Typed.{floatBits, f32Bits}
-use Rattle.typed.specs.Loop.{f32Of}
-use Rattle.typed.proofs.Patterns.{bits-below, bits-back}
+use Rattle.typed_values.specs.Bits.{f32Bits, f32Of}
+use Rattle.typed_values.proofs.Nans.{Back, not-nan}
 
--- ---- a pattern's value and the language's float are a NaN alike
-nan-agrees : (x : Float) (v : Value) → Agrees x v → v ≡ nan → x ≡ F.nan
-nan-agrees F.nan v a e = refl
-nan-agrees (F.inf s) v a e = let z : _≡_ {A = ℕ} 0 1 = cc in absurd (omega arith)
-nan-agrees (F.fin s m k) v a e = let f = sym e ∙ a .2 in let z : _≡_ {A = ℕ} 0 1 = cc in absurd (omega arith)
-
-no-nan-agrees : (x : Float) (v : Value) → Agrees x v → (v ≡ nan → ⊥) → T (not (isNan x))
-unfolding isNan
-no-nan-agrees F.nan v a f = f a
-no-nan-agrees (F.inf s) v a f = tt
-no-nan-agrees (F.fin s m k) v a f = tt
-
--- a float's pattern that stands for a NaN is the quiet one
-pub quiet : (f : Format) (x : Float) → valueOf (kindFor f) (floatBits f x) ≡ nan → floatBits f x ≡ toBits f F.nan
-quiet f x e = sym (bits-back f x) ∙ ap (toBits f) (nan-agrees (ofBits f (floatBits f x)) _ (agree f (floatBits f x)) e)
-
--- ---- the f32 read from the pattern b has the pattern b
-abbrev pub Back : ℕ → Type 0
-Back b = (toBits binary32 (ofBits binary32 b) ≡ b) × (b < 2 ^ 32)
-
-pub bits-are-back : (x : Float) → Back (f32Bits x)
-bits-are-back x = (bits-back binary32 x, bits-below binary32 x)
-
--- the quiet NaN of f64 is narrowed to that of f32; an integer is no NaN
-pub quiet-kept : Back (nanPattern f64 24 8 (toBits binary64 F.nan))
-unfolding nanPattern toBits ofBits
-quiet-kept = (refl, lit< tt)
-
-pub no-integer-nan : (s : Bool) (n b : ℕ) → valueOf (integer s n) b ≡ nan → ⊥
-unfolding valueOf
-no-integer-nan s n b e = let z : _≡_ {A = ℕ} 0 1 = cc in omega arith
-
-not-nan : (b : ℕ) → b < 2 ^ 32 → (valueOf f32 b ≡ nan → ⊥) → Back b
-not-nan b h f = (toBits-ofBits binary32 b h (no-nan-agrees (ofBits binary32 b) (valueOf f32 b) (agree binary32 b) f), h)
-
+-- ---- the f32 read from the pattern b has the bytes of b
 pub read-back : (b : ℕ) → Back b → toLe 4 (f32Bits (f32Of b)) ≡ toLe 4 b
 read-back b k =
     let x = ofBits binary32 (b % 2 ^ 32) in

@@ -2,10 +2,8 @@
 -- Assumes nothing.
 use mathlib.Core.Bool.{true, false, cond, _&&_}
 use mathlib.Core.List.{List}
-use Prim.Native.Nat.{ℕ, _+_, _-_, _%_, _^_}
+use Prim.Native.Nat.{ℕ, _+_}
 use lib.Dec.{ltb, eqb}
-use lib.Ieee.{Float, binary32, ofBits}
-use lib.IntN.{ℤ, pos, negsuc}
 use lib.ListN.{length, getD, set}
 use Rattle.kinds.specs.Codes.{kindOf, roundingOf, rangeOf}
 use Rattle.kinds.specs.declared.Outcome.{Outcome}
@@ -53,13 +51,3 @@ nextState (Stored b) ps i = stateAt ps (i + 1)
 nextState (NanOrInf v) ps i = stopped i (answerNext (NanOrInf v) i A.Converted)
 nextState (OutOfRange v lo hi) ps i = stopped i (answerNext (OutOfRange v lo hi) i A.Converted)
 nextState (FloatOutOfRange v lo hi) ps i = stopped i (answerNext (FloatOutOfRange v lo hi) i A.Converted)
-
--- ---- the value of the target that a pattern's lowest bits are
-abbrev pub u8Of : ℕ → ℕ
-u8Of b = b % 2 ^ 8
-
-abbrev pub i32Of : ℕ → ℤ
-i32Of b = let low = b % 2 ^ 32 in cond (ltb low (2 ^ 31)) (pos low) (negsuc (2 ^ 32 - 1 - low))
-
-abbrev pub f32Of : ℕ → Float
-f32Of b = ofBits binary32 (b % 2 ^ 32)

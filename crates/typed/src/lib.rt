@@ -3,19 +3,23 @@ ghost use mathlib.Core.Path.{_≡_};
 ghost use mathlib.Core.List.{map};
 ghost use Prim.Native.Nat.{_<_, _^_};
 ghost use lib.ListN.{length};
-ghost use Rattle.patterns.specs.Value.{valueOf};
 ghost use Rattle.kinds.specs.Codes.{kindOf};
 ghost use Rattle.cast_spec.specs.Chunk.{answerNext};
-ghost use Rattle.cast_spec.specs.Element.{matches};
 ghost use Rattle.kinds.specs.Row.{rowOf};
 ghost use Rattle.element.specs.Convert.{FloatPattern};
-ghost use Rattle.mapping.specs.Map.{lookupOf};
-ghost use Rattle.typed.specs.Typed.{f64Bits, f32Bits, i64Bits, u8Bits, i32Bits, f64U8, f64I32, f32U8, f64F32, i64F32, TypedContract};
-ghost use Rattle.typed.specs.Loop.{checkOf, stateAt, startOf, stopped, outcomeFor, nextState, storedIn, u8Of, i32Of, f32Of};
+ghost use Rattle.typed_values.specs.Bits.{f64Bits, f32Bits, i64Bits, u8Bits, i32Bits, u8Of, i32Of, f32Of};
+ghost use Rattle.typed_entries.specs.Entries.{f64U8, f64I32, f32U8, f64F32, i64F32};
+ghost use Rattle.typed.specs.Typed.{TypedContract};
+ghost use Rattle.typed.specs.Loop.{checkOf, stateAt, startOf, stopped, outcomeFor, nextState, storedIn};
 use kinds::Answer;
 use kinds::KindRow;
 use kinds::Outcome;
 use mapping::Lookup;
+use typed_entries::Entry;
+use typed_entries::EntryF32U8;
+use typed_entries::EntryF64I32;
+use typed_entries::EntryF64U8;
+use typed_entries::EntryI64F32;
 
 // What the loop of an entry carries: whether an element is to be converted, its position and its pattern, and the answer once the loop ends.
 pub struct State {
@@ -25,128 +29,16 @@ pub struct State {
     pub answer: Answer,
 }
 
-// A map entry of f64 to u8.
-#[repr(C)]
-pub struct EntryF64U8 {
-    pub key: f64,
-    pub target: u8,
-}
-
+// Three map entries by value.
 pub type ThreeEntryF64U8 = [EntryF64U8; 3];
-
-// A map entry of f64 to i32.
-#[repr(C)]
-pub struct EntryF64I32 {
-    pub key: f64,
-    pub target: i32,
-}
 
 pub type ThreeEntryF64I32 = [EntryF64I32; 3];
 
-// A map entry of f32 to u8.
-#[repr(C)]
-pub struct EntryF32U8 {
-    pub key: f32,
-    pub target: u8,
-}
-
 pub type ThreeEntryF32U8 = [EntryF32U8; 3];
-
-// A map entry of f64 to f32: a record of two floats.
-#[repr(C)]
-pub struct Entry {
-    pub key: f64,
-    pub target: f32,
-}
 
 pub type ThreeEntry = [Entry; 3];
 
-// A map entry of i64 to f32.
-#[repr(C)]
-pub struct EntryI64F32 {
-    pub key: i64,
-    pub target: f32,
-}
-
 pub type ThreeEntryI64F32 = [EntryI64F32; 3];
-
-// ---- patterns
-
-// The pattern of an f64. The language gives a NaN no bits: each stands as the quiet NaN.
-pub fn bits_f64(x: f64) -> u64
-    ensures { λ r. ⌜ r ≡ f64Bits x ⌝ }
-{
-    if x != x {
-        return 0x7ff8_0000_0000_0000;
-    }
-    f64::to_bits(x)
-}
-
-// The pattern of an f32, likewise.
-pub fn bits_f32(x: f32) -> u64
-    ensures { λ r. ⌜ r ≡ f32Bits x ⌝ }
-{
-    if x != x {
-        return 0x7fc0_0000;
-    }
-    f32::to_bits(x) as u64
-}
-
-// The 64 bits of a signed number, two's complement.
-pub fn bits_i64(z: i64) -> u64
-    ensures { λ r. ⌜ r ≡ i64Bits z ⌝ }
-{
-    if z < 0 {
-        return 0xffff_ffff_ffff_ffff - ((-1 - z) as u64);
-    }
-    z as u64
-}
-
-// The 32 bits of a signed number, two's complement.
-pub fn bits_i32(z: i32) -> u64
-    ensures { λ r. ⌜ r ≡ i32Bits z ⌝ }
-{
-    if z < 0 {
-        return 0xffff_ffff - ((-1 - z) as u64);
-    }
-    z as u64
-}
-
-// The eight bits of a u8.
-pub fn bits_u8(x: u8) -> u64
-    ensures { λ r. ⌜ r ≡ u8Bits x ⌝ }
-{
-    x as u64
-}
-
-// The u8 of a pattern's lowest eight bits.
-fn u8_of(b: u64) -> u8
-    ensures { λ r. ⌜ r ≡ u8Of b ⌝ }
-{
-    (b % 256) as u8
-}
-
-// The i32 of a pattern's lowest 32 bits.
-fn i32_of(b: u64) -> i32
-    ensures { λ r. ⌜ r ≡ i32Of b ⌝ }
-{
-    let low = b % 0x1_0000_0000;
-    if low < 0x8000_0000 {
-        return low as i32;
-    }
-    -1 - ((0xffff_ffff - low) as i32)
-}
-
-// The f32 of a pattern's lowest 32 bits. Of a NaN's pattern it is a NaN, whose bits the language leaves free.
-fn f32_of(b: u64) -> f32
-    ensures { λ r. ⌜ r ≡ f32Of b ⌝ }
-{
-    let low = b % 0x1_0000_0000;
-    if 0x7f80_0000 < low % 0x8000_0000 {
-        return 0.0 / 0.0;
-    }
-    f32::from_bits(low as u32)
-}
 
 // ---- the loop's parts that every entry shares
 
@@ -259,20 +151,12 @@ fn answer_of(s: State) -> Answer
 
 // ---- sources
 
-// Whether an entry's key matches the f64 of the pattern x.
-fn key_matches_f64(key: f64, x: u64) -> bool
-    requires { ⌜ x < 2 ^ 64 ⌝ }
-    ensures { λ r. ⌜ r ≡ matches (valueOf (kindOf 9) x) (valueOf (kindOf 9) (f64Bits key)) ⌝ }
-{
-    mapping::matches_f64(x, bits_f64(key))
-}
-
 // The state at a position of f64 elements.
 fn state_f64(src: &[f64], at: usize) -> State
     ensures { λ r. ⌜ r ≡ stateAt (map f64Bits (now (src .entry))) at ⌝ }
 {
     if at < src.len() {
-        let x = bits_f64(src[at]);
+        let x = typed_values::bits_f64(src[at]);
         return State {
             more: true,
             at: at,
@@ -294,20 +178,12 @@ fn start_f64(src: &[f64], room: usize, rounding: u8, range: u8) -> State
     s
 }
 
-// Whether an entry's key matches the f32 of the pattern x.
-fn key_matches_f32(key: f32, x: u64) -> bool
-    requires { ⌜ x < 2 ^ 32 ⌝ }
-    ensures { λ r. ⌜ r ≡ matches (valueOf (kindOf 8) x) (valueOf (kindOf 8) (f32Bits key)) ⌝ }
-{
-    mapping::matches_f32(x, bits_f32(key))
-}
-
 // The state at a position of f32 elements.
 fn state_f32(src: &[f32], at: usize) -> State
     ensures { λ r. ⌜ r ≡ stateAt (map f32Bits (now (src .entry))) at ⌝ }
 {
     if at < src.len() {
-        let x = bits_f32(src[at]);
+        let x = typed_values::bits_f32(src[at]);
         return State {
             more: true,
             at: at,
@@ -329,20 +205,12 @@ fn start_f32(src: &[f32], room: usize, rounding: u8, range: u8) -> State
     s
 }
 
-// Whether an entry's key matches the i64 of the pattern x.
-fn key_matches_i64(key: i64, x: u64) -> bool
-    requires { ⌜ x < 2 ^ 64 ⌝ }
-    ensures { λ r. ⌜ r ≡ matches (valueOf (kindOf 3) x) (valueOf (kindOf 3) (i64Bits key)) ⌝ }
-{
-    x == bits_i64(key)
-}
-
 // The state at a position of i64 elements.
 fn state_i64(src: &[i64], at: usize) -> State
     ensures { λ r. ⌜ r ≡ stateAt (map i64Bits (now (src .entry))) at ⌝ }
 {
     if at < src.len() {
-        let x = bits_i64(src[at]);
+        let x = typed_values::bits_i64(src[at]);
         return State {
             more: true,
             at: at,
@@ -366,37 +234,6 @@ fn start_i64(src: &[i64], room: usize, rounding: u8, range: u8) -> State
 
 // ---- f64 to u8
 
-// Whether an entry matches the f64 of the pattern x.
-fn matches_f64_u8(e: EntryF64U8, x: u64) -> bool
-    requires { ⌜ x < 2 ^ 64 ⌝ }
-    ensures { λ r. ⌜ r ≡ matches (valueOf (kindOf 9) x) (valueOf (kindOf 9) (f64U8 e .key)) ⌝ }
-{
-    key_matches_f64(e.key, x)
-}
-
-// An entry's target.
-fn found_f64_u8(e: EntryF64U8) -> Lookup
-    ensures { λ r. ⌜ r ≡ Lookup.Found (f64U8 e .target) ⌝ }
-{
-    Lookup::Found(bits_u8(e.target))
-}
-
-// The target of the first entry that matches.
-fn lookup_f64_u8(entries: &[EntryF64U8], x: u64) -> Lookup
-    requires { ⌜ x < 2 ^ 64 ⌝ }
-    ensures { λ r. ⌜ r ≡ lookupOf (kindOf 9) (valueOf (kindOf 9) x) (map f64U8 (now (entries .entry))) ⌝ }
-{
-    let mut i = 0;
-    while i < entries.len() {
-        let e = entries[i];
-        if matches_f64_u8(e, x) {
-            return found_f64_u8(e);
-        }
-        i += 1;
-    }
-    Lookup::Missing
-}
-
 // One element: stored, and the state at the next; or refused.
 fn step_f64_u8(src: &[f64], dst: &mut [u8], s: State, f: Lookup, rounding: u8, range: u8) -> State
     requires { ⌜ (s .x < 2 ^ 64) × (s .at < length (now src)) × (s .at < length (now dst)) ⌝ }
@@ -405,7 +242,7 @@ fn step_f64_u8(src: &[f64], dst: &mut [u8], s: State, f: Lookup, rounding: u8, r
     let at = s.at;
     let o = outcome_float_to_int(s.x, f, 9, 4, kinds::row_u8(), rounding, range);
     if let Outcome::Stored(pattern) = o {
-        dst[at] = u8_of(pattern);
+        dst[at] = typed_values::u8_of(pattern);
         return state_f64(src, at + 1);
     }
     refuse(at, o)
@@ -423,7 +260,7 @@ pub fn convert_f64_to_u8(
 {
     let mut s = start_f64(src, dst.len(), rounding, range);
     while s.more {
-        let f = lookup_f64_u8(entries, s.x);
+        let f = typed_entries::lookup_f64_u8(entries, s.x);
         s = step_f64_u8(src, dst, s, f, rounding, range);
     }
     answer_of(s)
@@ -444,37 +281,6 @@ pub fn convert_f64_to_u8_with3(
 
 // ---- f64 to i32
 
-// Whether an entry matches the f64 of the pattern x.
-fn matches_f64_i32(e: EntryF64I32, x: u64) -> bool
-    requires { ⌜ x < 2 ^ 64 ⌝ }
-    ensures { λ r. ⌜ r ≡ matches (valueOf (kindOf 9) x) (valueOf (kindOf 9) (f64I32 e .key)) ⌝ }
-{
-    key_matches_f64(e.key, x)
-}
-
-// An entry's target.
-fn found_f64_i32(e: EntryF64I32) -> Lookup
-    ensures { λ r. ⌜ r ≡ Lookup.Found (f64I32 e .target) ⌝ }
-{
-    Lookup::Found(bits_i32(e.target))
-}
-
-// The target of the first entry that matches.
-fn lookup_f64_i32(entries: &[EntryF64I32], x: u64) -> Lookup
-    requires { ⌜ x < 2 ^ 64 ⌝ }
-    ensures { λ r. ⌜ r ≡ lookupOf (kindOf 9) (valueOf (kindOf 9) x) (map f64I32 (now (entries .entry))) ⌝ }
-{
-    let mut i = 0;
-    while i < entries.len() {
-        let e = entries[i];
-        if matches_f64_i32(e, x) {
-            return found_f64_i32(e);
-        }
-        i += 1;
-    }
-    Lookup::Missing
-}
-
 // One element: stored, and the state at the next; or refused.
 fn step_f64_i32(src: &[f64], dst: &mut [i32], s: State, f: Lookup, rounding: u8, range: u8) -> State
     requires { ⌜ (s .x < 2 ^ 64) × (s .at < length (now src)) × (s .at < length (now dst)) ⌝ }
@@ -483,7 +289,7 @@ fn step_f64_i32(src: &[f64], dst: &mut [i32], s: State, f: Lookup, rounding: u8,
     let at = s.at;
     let o = outcome_float_to_int(s.x, f, 9, 2, kinds::row_i32(), rounding, range);
     if let Outcome::Stored(pattern) = o {
-        dst[at] = i32_of(pattern);
+        dst[at] = typed_values::i32_of(pattern);
         return state_f64(src, at + 1);
     }
     refuse(at, o)
@@ -501,7 +307,7 @@ pub fn convert_f64_to_i32(
 {
     let mut s = start_f64(src, dst.len(), rounding, range);
     while s.more {
-        let f = lookup_f64_i32(entries, s.x);
+        let f = typed_entries::lookup_f64_i32(entries, s.x);
         s = step_f64_i32(src, dst, s, f, rounding, range);
     }
     answer_of(s)
@@ -522,37 +328,6 @@ pub fn convert_f64_to_i32_with3(
 
 // ---- f32 to u8
 
-// Whether an entry matches the f32 of the pattern x.
-fn matches_f32_u8(e: EntryF32U8, x: u64) -> bool
-    requires { ⌜ x < 2 ^ 32 ⌝ }
-    ensures { λ r. ⌜ r ≡ matches (valueOf (kindOf 8) x) (valueOf (kindOf 8) (f32U8 e .key)) ⌝ }
-{
-    key_matches_f32(e.key, x)
-}
-
-// An entry's target.
-fn found_f32_u8(e: EntryF32U8) -> Lookup
-    ensures { λ r. ⌜ r ≡ Lookup.Found (f32U8 e .target) ⌝ }
-{
-    Lookup::Found(bits_u8(e.target))
-}
-
-// The target of the first entry that matches.
-fn lookup_f32_u8(entries: &[EntryF32U8], x: u64) -> Lookup
-    requires { ⌜ x < 2 ^ 32 ⌝ }
-    ensures { λ r. ⌜ r ≡ lookupOf (kindOf 8) (valueOf (kindOf 8) x) (map f32U8 (now (entries .entry))) ⌝ }
-{
-    let mut i = 0;
-    while i < entries.len() {
-        let e = entries[i];
-        if matches_f32_u8(e, x) {
-            return found_f32_u8(e);
-        }
-        i += 1;
-    }
-    Lookup::Missing
-}
-
 // One element: stored, and the state at the next; or refused.
 fn step_f32_u8(src: &[f32], dst: &mut [u8], s: State, f: Lookup, rounding: u8, range: u8) -> State
     requires { ⌜ (s .x < 2 ^ 32) × (s .at < length (now src)) × (s .at < length (now dst)) ⌝ }
@@ -561,7 +336,7 @@ fn step_f32_u8(src: &[f32], dst: &mut [u8], s: State, f: Lookup, rounding: u8, r
     let at = s.at;
     let o = outcome_float_to_int(s.x, f, 8, 4, kinds::row_u8(), rounding, range);
     if let Outcome::Stored(pattern) = o {
-        dst[at] = u8_of(pattern);
+        dst[at] = typed_values::u8_of(pattern);
         return state_f32(src, at + 1);
     }
     refuse(at, o)
@@ -579,7 +354,7 @@ pub fn convert_f32_to_u8(
 {
     let mut s = start_f32(src, dst.len(), rounding, range);
     while s.more {
-        let f = lookup_f32_u8(entries, s.x);
+        let f = typed_entries::lookup_f32_u8(entries, s.x);
         s = step_f32_u8(src, dst, s, f, rounding, range);
     }
     answer_of(s)
@@ -600,37 +375,6 @@ pub fn convert_f32_to_u8_with3(
 
 // ---- f64 to f32
 
-// Whether an entry matches the f64 of the pattern x.
-fn matches_f64_f32(e: Entry, x: u64) -> bool
-    requires { ⌜ x < 2 ^ 64 ⌝ }
-    ensures { λ r. ⌜ r ≡ matches (valueOf (kindOf 9) x) (valueOf (kindOf 9) (f64F32 e .key)) ⌝ }
-{
-    key_matches_f64(e.key, x)
-}
-
-// An entry's target.
-fn found_f64_f32(e: Entry) -> Lookup
-    ensures { λ r. ⌜ r ≡ Lookup.Found (f64F32 e .target) ⌝ }
-{
-    Lookup::Found(bits_f32(e.target))
-}
-
-// The target of the first entry that matches.
-fn lookup_f64_f32(entries: &[Entry], x: u64) -> Lookup
-    requires { ⌜ x < 2 ^ 64 ⌝ }
-    ensures { λ r. ⌜ r ≡ lookupOf (kindOf 9) (valueOf (kindOf 9) x) (map f64F32 (now (entries .entry))) ⌝ }
-{
-    let mut i = 0;
-    while i < entries.len() {
-        let e = entries[i];
-        if matches_f64_f32(e, x) {
-            return found_f64_f32(e);
-        }
-        i += 1;
-    }
-    Lookup::Missing
-}
-
 // One element: stored, and the state at the next; or refused.
 fn step_f64_f32(src: &[f64], dst: &mut [f32], s: State, f: Lookup, rounding: u8, range: u8) -> State
     requires { ⌜ (s .x < 2 ^ 64) × (s .at < length (now src)) × (s .at < length (now dst)) ⌝ }
@@ -639,7 +383,7 @@ fn step_f64_f32(src: &[f64], dst: &mut [f32], s: State, f: Lookup, rounding: u8,
     let at = s.at;
     let o = outcome_f64_to_f32(s.x, f, rounding, range);
     if let Outcome::Stored(pattern) = o {
-        dst[at] = f32_of(pattern);
+        dst[at] = typed_values::f32_of(pattern);
         return state_f64(src, at + 1);
     }
     refuse(at, o)
@@ -657,7 +401,7 @@ pub fn convert_f64_to_f32(
 {
     let mut s = start_f64(src, dst.len(), rounding, range);
     while s.more {
-        let f = lookup_f64_f32(entries, s.x);
+        let f = typed_entries::lookup_f64_f32(entries, s.x);
         s = step_f64_f32(src, dst, s, f, rounding, range);
     }
     answer_of(s)
@@ -678,37 +422,6 @@ pub fn convert_f64_to_f32_with3(
 
 // ---- i64 to f32
 
-// Whether an entry matches the i64 of the pattern x.
-fn matches_i64_f32(e: EntryI64F32, x: u64) -> bool
-    requires { ⌜ x < 2 ^ 64 ⌝ }
-    ensures { λ r. ⌜ r ≡ matches (valueOf (kindOf 3) x) (valueOf (kindOf 3) (i64F32 e .key)) ⌝ }
-{
-    key_matches_i64(e.key, x)
-}
-
-// An entry's target.
-fn found_i64_f32(e: EntryI64F32) -> Lookup
-    ensures { λ r. ⌜ r ≡ Lookup.Found (i64F32 e .target) ⌝ }
-{
-    Lookup::Found(bits_f32(e.target))
-}
-
-// The target of the first entry that matches.
-fn lookup_i64_f32(entries: &[EntryI64F32], x: u64) -> Lookup
-    requires { ⌜ x < 2 ^ 64 ⌝ }
-    ensures { λ r. ⌜ r ≡ lookupOf (kindOf 3) (valueOf (kindOf 3) x) (map i64F32 (now (entries .entry))) ⌝ }
-{
-    let mut i = 0;
-    while i < entries.len() {
-        let e = entries[i];
-        if matches_i64_f32(e, x) {
-            return found_i64_f32(e);
-        }
-        i += 1;
-    }
-    Lookup::Missing
-}
-
 // One element: stored, and the state at the next; or refused.
 fn step_i64_f32(src: &[i64], dst: &mut [f32], s: State, f: Lookup, rounding: u8, range: u8) -> State
     requires { ⌜ (s .x < 2 ^ 64) × (s .at < length (now src)) × (s .at < length (now dst)) ⌝ }
@@ -717,7 +430,7 @@ fn step_i64_f32(src: &[i64], dst: &mut [f32], s: State, f: Lookup, rounding: u8,
     let at = s.at;
     let o = outcome_i64_to_f32(s.x, f, rounding, range);
     if let Outcome::Stored(pattern) = o {
-        dst[at] = f32_of(pattern);
+        dst[at] = typed_values::f32_of(pattern);
         return state_i64(src, at + 1);
     }
     refuse(at, o)
@@ -735,7 +448,7 @@ pub fn convert_i64_to_f32(
 {
     let mut s = start_i64(src, dst.len(), rounding, range);
     while s.more {
-        let f = lookup_i64_f32(entries, s.x);
+        let f = typed_entries::lookup_i64_f32(entries, s.x);
         s = step_i64_f32(src, dst, s, f, rounding, range);
     }
     answer_of(s)

@@ -2,11 +2,11 @@
 // both routes agree in the answer and in every byte, the answer's number, the position of a refusal, and the typed destination's bytes.
 use kinds::Answer;
 use libc::STDOUT_FILENO;
-use typed::Entry;
-use typed::EntryF32U8;
-use typed::EntryF64I32;
-use typed::EntryF64U8;
-use typed::EntryI64F32;
+use typed_entries::Entry;
+use typed_entries::EntryF32U8;
+use typed_entries::EntryF64I32;
+use typed_entries::EntryF64U8;
+use typed_entries::EntryI64F32;
 
 // An answer, and a destination's bytes.
 pub struct Four {
@@ -47,19 +47,19 @@ fn long(v: u64) -> [u8; 8] {
 }
 
 fn f64_bytes(x: f64) -> [u8; 8] {
-    long(typed::bits_f64(x))
+    long(typed_values::bits_f64(x))
 }
 
 fn i64_bytes(x: i64) -> [u8; 8] {
-    long(typed::bits_i64(x))
+    long(typed_values::bits_i64(x))
 }
 
 fn f32_bytes(x: f32) -> [u8; 4] {
-    word(typed::bits_f32(x))
+    word(typed_values::bits_f32(x))
 }
 
 fn i32_bytes(x: i32) -> [u8; 4] {
-    word(typed::bits_i32(x))
+    word(typed_values::bits_i32(x))
 }
 
 fn three_words(x: [u8; 4], y: [u8; 4], z: [u8; 4]) -> [u8; 12] {

@@ -3,6 +3,8 @@
 use contract.Running.{givenOf, tables, tablesOf}
 use denote.Triple.Spec.{tripleOf}
 use denote.Triple.Table.{entered, cited}
+use Rattle.typed_entries.proofs.lookup_f32_u8.Symbol as lookup
+use Rattle.typed_entries.proofs.lookup_f32_u8.Met as lookup-thm
 use Rattle.typed.proofs.convert_f32_to_u8.Key.{name}
 use Rattle.typed.proofs.Conversions.{Start, LookUp, Step, AnswerOf, meets}
 use Rattle.typed.proofs.start_f32.Met as start-thm
@@ -10,10 +12,8 @@ use Rattle.typed.proofs.convert_f32_to_u8 as convert
 use Rattle.typed.proofs.answer_of.Met as answer-thm
 use Rattle.typed.proofs.step_f32_u8.Symbol as step
 use Rattle.typed.proofs.start_f32.Symbol as start
-use Rattle.typed.proofs.lookup_f32_u8.Symbol as lookup
 use Rattle.typed.proofs.convert_f32_to_u8.Statement as stated
 use Rattle.typed.proofs.step_f32_u8.Met as step-thm
-use Rattle.typed.proofs.lookup_f32_u8.Met as lookup-thm
 use Rattle.typed.proofs.answer_of.Symbol as answer
 use Rattle.typed.proofs.convert_f32_to_u8.Code as code
 use Rattle.typed.proofs.Pairs.{f32-to-u8}
@@ -25,6 +25,6 @@ convert-f32-to-u8-spec 𝓤 H 𝓜 𝓖 𝓡 =
     (tables 𝓤 H 𝓜 𝓡 code.env .C) (tables 𝓤 H 𝓜 𝓡 code.env .Λ) name code.function (code.unfolded 𝓤 H 𝓜 𝓡)
     (meets f32-to-u8 start.name lookup.name step.name answer.name 𝓤 H (𝓖 .A) (givenOf 𝓤 H 𝓜 𝓖) (tablesOf 𝓤 H 𝓜 (tables 𝓤 H 𝓜 𝓡 code.env))
     (cited 𝓤 H (Start f32-to-u8 𝓤 H (𝓖 .A)) 𝓜 𝓡 code.env start.name start.routine code.calls-typed·start-f32 (start-thm.met 𝓤 H 𝓜 𝓖 𝓡))
-    (cited 𝓤 H (LookUp f32-to-u8 𝓤 H (𝓖 .A)) 𝓜 𝓡 code.env lookup.name lookup.routine code.calls-typed·lookup-f32-u8 (lookup-thm.met 𝓤 H 𝓜 𝓖 𝓡))
+    (cited 𝓤 H (LookUp f32-to-u8 𝓤 H (𝓖 .A)) 𝓜 𝓡 code.env lookup.name lookup.routine code.calls-typed-entries·lookup-f32-u8 (lookup-thm.met 𝓤 H 𝓜 𝓖 𝓡))
     (cited 𝓤 H (Step f32-to-u8 𝓤 H (𝓖 .A)) 𝓜 𝓡 code.env step.name step.routine code.calls-typed·step-f32-u8 (step-thm.met 𝓤 H 𝓜 𝓖 𝓡))
     (cited 𝓤 H (AnswerOf f32-to-u8 𝓤 H (𝓖 .A)) 𝓜 𝓡 code.env answer.name answer.routine code.calls-typed·answer-of (answer-thm.met 𝓤 H 𝓜 𝓖 𝓡)))

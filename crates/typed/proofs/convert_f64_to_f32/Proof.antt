@@ -3,7 +3,8 @@
 use contract.Running.{givenOf, tables, tablesOf}
 use denote.Triple.Spec.{tripleOf}
 use denote.Triple.Table.{entered, cited}
-use Rattle.typed.proofs.lookup_f64_f32.Met as lookup-thm
+use Rattle.typed_entries.proofs.lookup_f64_f32.Met as lookup-thm
+use Rattle.typed_entries.proofs.lookup_f64_f32.Symbol as lookup
 use Rattle.typed.proofs.Pairs.{f64-to-f32}
 use Rattle.typed.proofs.convert_f64_to_f32.Key.{name}
 use Rattle.typed.proofs.Conversions.{Start, LookUp, Step, AnswerOf, meets}
@@ -11,7 +12,6 @@ use Rattle.typed.proofs.answer_of.Met as answer-thm
 use Rattle.typed.proofs.convert_f64_to_f32.Code as code
 use Rattle.typed.proofs.convert_f64_to_f32 as convert
 use Rattle.typed.proofs.start_f64.Symbol as start
-use Rattle.typed.proofs.lookup_f64_f32.Symbol as lookup
 use Rattle.typed.proofs.convert_f64_to_f32.Statement as stated
 use Rattle.typed.proofs.step_f64_f32.Met as step-thm
 use Rattle.typed.proofs.answer_of.Symbol as answer
@@ -25,6 +25,6 @@ convert-f64-to-f32-spec 𝓤 H 𝓜 𝓖 𝓡 =
     (tables 𝓤 H 𝓜 𝓡 code.env .C) (tables 𝓤 H 𝓜 𝓡 code.env .Λ) name code.function (code.unfolded 𝓤 H 𝓜 𝓡)
     (meets f64-to-f32 start.name lookup.name step.name answer.name 𝓤 H (𝓖 .A) (givenOf 𝓤 H 𝓜 𝓖) (tablesOf 𝓤 H 𝓜 (tables 𝓤 H 𝓜 𝓡 code.env))
     (cited 𝓤 H (Start f64-to-f32 𝓤 H (𝓖 .A)) 𝓜 𝓡 code.env start.name start.routine code.calls-typed·start-f64 (start-thm.met 𝓤 H 𝓜 𝓖 𝓡))
-    (cited 𝓤 H (LookUp f64-to-f32 𝓤 H (𝓖 .A)) 𝓜 𝓡 code.env lookup.name lookup.routine code.calls-typed·lookup-f64-f32 (lookup-thm.met 𝓤 H 𝓜 𝓖 𝓡))
+    (cited 𝓤 H (LookUp f64-to-f32 𝓤 H (𝓖 .A)) 𝓜 𝓡 code.env lookup.name lookup.routine code.calls-typed-entries·lookup-f64-f32 (lookup-thm.met 𝓤 H 𝓜 𝓖 𝓡))
     (cited 𝓤 H (Step f64-to-f32 𝓤 H (𝓖 .A)) 𝓜 𝓡 code.env step.name step.routine code.calls-typed·step-f64-f32 (step-thm.met 𝓤 H 𝓜 𝓖 𝓡))
     (cited 𝓤 H (AnswerOf f64-to-f32 𝓤 H (𝓖 .A)) 𝓜 𝓡 code.env answer.name answer.routine code.calls-typed·answer-of (answer-thm.met 𝓤 H 𝓜 𝓖 𝓡)))

@@ -2,8 +2,8 @@
 -- Assumes nothing.
 use denote.Ref.{now}
 use borrow.Author.Needs.{needs}
+use Rattle.typed_values.specs.Bits.{f32Bits}
 use Rattle.typed.proofs.Parts.{starts, refuses-start}
-use Rattle.typed.specs.Typed.{f32Bits}
 use Rattle.typed.proofs.start_f32.Statement.{statement}
 use Rattle.typed.proofs.start_f32.Tie as tie
 

@@ -2,9 +2,9 @@
 -- Assumes nothing.
 use denote.Ref.{now}
 use borrow.Author.Needs.{needs}
+use Rattle.typed_values.specs.Bits.{i64Bits}
 use Rattle.typed.proofs.Parts.{starts, refuses-start}
 use Rattle.typed.proofs.start_i64.Statement.{statement}
-use Rattle.typed.specs.Typed.{i64Bits}
 use Rattle.typed.proofs.start_i64.Tie as tie
 
 returns : tie.Need-returns

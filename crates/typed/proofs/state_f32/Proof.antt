@@ -3,9 +3,9 @@
 use mathlib.Core.Path.{_∙_}
 use denote.Ref.{now}
 use borrow.Author.Needs.{needs}
+use Rattle.typed_values.specs.Bits.{f32Bits}
 use Rattle.typed.proofs.state_f32.Statement.{statement}
 use Rattle.typed.proofs.Parts.{within, past}
-use Rattle.typed.specs.Typed.{f32Bits}
 use Rattle.typed.proofs.state_f32.Tie as tie
 
 returns : tie.Need-returns

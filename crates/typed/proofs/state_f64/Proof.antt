@@ -3,10 +3,10 @@
 use mathlib.Core.Path.{_∙_}
 use denote.Ref.{now}
 use borrow.Author.Needs.{needs}
+use Rattle.typed_values.specs.Bits.{f64Bits}
 use Rattle.typed.proofs.state_f64.Tie as tie
 use Rattle.typed.proofs.Parts.{within, past}
 use Rattle.typed.proofs.state_f64.Statement.{statement}
-use Rattle.typed.specs.Typed.{f64Bits}
 
 returns : tie.Need-returns
 returns c = let a = c .before .before .before .before .args in within f64Bits (now (a .src)) (a .at) _ _ (c .before .before .if1 .taken) (c .bits-f64 .ensures)

@@ -7,8 +7,8 @@ use mir.Syntax.{w64}
 use mir.ValLaws.{toZ-ofZ}
 use denote.Ref.{now}
 use borrow.Author.Needs.{needs}
+use Rattle.typed_values.specs.Bits.{i64Bits}
 use Rattle.typed.proofs.state_i64.Tie as tie
-use Rattle.typed.specs.Typed.{i64Bits}
 use Rattle.typed.proofs.Parts.{within, past}
 use Rattle.typed.proofs.state_i64.Statement.{statement}
 

@@ -4,9 +4,9 @@ use mathlib.Core.List.{map}
 use denote.Ref.{now}
 use borrow.Author.Needs.{needs}
 use Rattle.chunk.proofs.Elements.{refuses}
-use Rattle.typed.specs.Loop.{outcomeFor, f32Of}
+use Rattle.typed_values.specs.Bits.{f32Of, f64Bits}
+use Rattle.typed.specs.Loop.{outcomeFor}
 use Rattle.typed.proofs.Parts.{stored, refused}
-use Rattle.typed.specs.Typed.{f64Bits}
 use Rattle.typed.proofs.step_f64_f32.Statement.{statement}
 use Rattle.typed.proofs.step_f64_f32.Tie as tie
 

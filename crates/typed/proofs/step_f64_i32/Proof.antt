@@ -7,9 +7,9 @@ use mir.Syntax.{w32}
 use denote.Ref.{now}
 use borrow.Author.Needs.{needs}
 use Rattle.chunk.proofs.Elements.{refuses}
-use Rattle.typed.specs.Loop.{outcomeFor, i32Of}
+use Rattle.typed_values.specs.Bits.{i32Of, f64Bits}
+use Rattle.typed.specs.Loop.{outcomeFor}
 use Rattle.typed.proofs.Parts.{stored, refused}
-use Rattle.typed.specs.Typed.{f64Bits}
 use Rattle.typed.proofs.step_f64_i32.Statement.{statement}
 use Rattle.typed.proofs.step_f64_i32.Tie as tie
 

@@ -4,10 +4,10 @@ use mathlib.Core.List.{map}
 use denote.Ref.{now}
 use borrow.Author.Needs.{needs}
 use Rattle.chunk.proofs.Elements.{refuses}
+use Rattle.typed_values.specs.Bits.{u8Of, f64Bits}
 use Rattle.typed.proofs.step_f64_u8.Tie as tie
 use Rattle.typed.proofs.Parts.{stored, refused}
-use Rattle.typed.specs.Loop.{outcomeFor, u8Of}
-use Rattle.typed.specs.Typed.{f64Bits}
+use Rattle.typed.specs.Loop.{outcomeFor}
 use Rattle.typed.proofs.step_f64_u8.Statement.{statement}
 
 returns : tie.Need-returns

@@ -1,0 +1,4 @@
+pub mod Fits
+pub mod Nans
+pub mod Patterns
+pub mod Signed
