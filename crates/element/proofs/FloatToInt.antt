@@ -9,7 +9,7 @@ use lib.Bits.{and-mask, bitAnd}
 use lib.Dec.{leb, lit≤, lit<}
 use lib.IntN.{ℤ}
 use Rattle.patterns.specs.Value.{Value, num, inf, nan, negative, valueOf}
-use Rattle.floats.proofs.Fields.{is-num}
+use Rattle.patterns.proofs.Floats.{is-num, finite-parts}
 use Rattle.element.proofs.Widened.{AsF64, f32-as-f64, f64-as-f64}
 use Rattle.element.specs.declared.Fit.{Fit}
 use Rattle.element.specs.Convert.{FloatPattern, Held, fitted, unmapped}
@@ -20,7 +20,6 @@ use Rattle.kinds.specs.declared.OutOfRangeMode.{OutOfRangeMode}
 use Rattle.grid.specs.declared.RoundingMode.{RoundingMode}
 use Rattle.cast_spec.specs.Element.{Settings, converted, ranged}
 use Rattle.rounding.specs.declared.Whole.{Whole}
-use Rattle.patterns.proofs.Floats.{finite-parts}
 use Rattle.patterns.specs.Pattern.{asF64}
 use Rattle.patterns.specs.Float.{bitsMag, infBits}
 use Rattle.grid.proofs.Neighbours.{cut}

@@ -13,8 +13,7 @@ use lib.Pow.{pow-pos}
 use lib.Signed.{_≤ℤ_}
 use borrow.Author.Tests.{eq-eqb}
 use Rattle.patterns.specs.Value.{Value, num, inf, nan, negative, valueOf}
-use Rattle.patterns.proofs.Floats.{finite-parts, number-held, signed-again, abs-signed, bits-again, bits-in-range, bits-past-range}
-use Rattle.floats.proofs.Fields.{is-num, is-inf, is-nan}
+use Rattle.patterns.proofs.Floats.{finite-parts, number-held, signed-again, abs-signed, bits-again, bits-in-range, bits-past-range, is-num, is-inf, is-nan}
 use Rattle.element.proofs.Widened.{by-class, asF64-f64, f32-within-f64}
 use Rattle.patterns.specs.Kind.{InRange, Kind, WellFormed, binary, f32, f64, gridOf, highest, lowest, bits}
 use Rattle.grid.specs.declared.RoundingMode.the-variants.{NearestEven}
@@ -38,7 +37,7 @@ use Rattle.kinds.specs.declared.OutOfRangeMode.the-variants.{Clamp, None, Wrap}
 use Rattle.kinds.specs.declared.KindRow.{KindRow}
 use Rattle.grid.proofs.Kept.{pick-signed}
 use Rattle.kinds.specs.Row.{rowOf}
-use Rattle.floats.proofs.Widening.{sign-moved}
+use Rattle.widening.proofs.Widening.{sign-moved}
 use Rattle.element.proofs.FloatToInt.{by-float, eight-of, nine-of}
 
 -- ---- a pick in range is stored, and one past it goes as the range choice says

@@ -9,10 +9,9 @@ use native.Mathlib.Omega.{arith}
 use lib.Dec.{lit<, lit≤}
 use borrow.Author.Tests.{ne-eqb}
 use Rattle.patterns.specs.Value.{num, inf, nan, Value, floatValue, negative, valueOf}
-use Rattle.patterns.proofs.Floats.{sign-is, sign-lt, inf-lt, inf-back, inf-fits, nan-back, bits-again, signed-again, on-bits, number-back, number-fits, mag-lt}
+use Rattle.patterns.proofs.Floats.{sign-is, sign-lt, inf-lt, inf-back, inf-fits, nan-back, bits-again, signed-again, on-bits, number-back, number-fits, mag-lt, is-num, is-inf, is-nan}
 use Rattle.grid.proofs.Neighbours.{finer, cut}
-use Rattle.floats.proofs.Widening.{as-number, as-infinity, as-nan}
-use Rattle.floats.proofs.Fields.{is-num, is-inf, is-nan}
+use Rattle.widening.proofs.Widening.{as-number, as-infinity, as-nan}
 use Rattle.patterns.specs.Kind.{Kind, binary, f32, f64}
 use Rattle.grid.specs.Grid.{OnMag, float}
 use Rattle.patterns.specs.Pattern.{asF64, magBits, nanPattern, withSign, quiet}

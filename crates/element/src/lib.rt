@@ -80,7 +80,7 @@ fn float_as_f64(b: u64, from: u8) -> u64
     ensures { λ r. ⌜ r ≡ asF64 (kindOf from) b ⌝ }
 {
     if from == 8 {
-        return floats::widen(b as u32);
+        return widening::widen(b as u32);
     }
     b
 }
@@ -144,7 +144,7 @@ fn narrow(b: u64, mode: RoundingMode, range: OutOfRangeMode) -> Outcome
     let magnitude = b & 0x7fff_ffff_ffff_ffff;
     let sign = (b >> 63) << 31;
     if 0x7ff0_0000_0000_0000 < magnitude {
-        return Outcome::Stored(floats::narrow_nan(b) as u64);
+        return Outcome::Stored(widening::narrow_nan(b) as u64);
     }
     if magnitude == 0x7ff0_0000_0000_0000 {
         return Outcome::Stored(sign + 0x7f80_0000);
@@ -189,7 +189,7 @@ pub fn convert_float_to_float(
         return Outcome::Stored(b);
     }
     if from == 8 {
-        return Outcome::Stored(floats::widen(b as u32));
+        return Outcome::Stored(widening::widen(b as u32));
     }
     narrow(b, mode, range)
 }

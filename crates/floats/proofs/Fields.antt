@@ -14,7 +14,8 @@ use Rattle.grid.specs.Round.{signed}
 use Rattle.grid.proofs.Neighbours.{cut, pow-twice-pred}
 use Rattle.patterns.specs.Float.{fieldMag, bitsMag, infBits}
 use Rattle.patterns.specs.Kind.{binary}
-use Rattle.patterns.specs.Value.{nan, inf, num, negative, floatValue, valueOf}
+use Rattle.patterns.specs.Value.{num, negative, floatValue, valueOf}
+use Rattle.patterns.proofs.Floats.{is-num, is-inf, is-nan}
 use Rattle.floats.specs.Parts.{fieldOf, fractionOf, partsOf}
 use Rattle.floats.specs.Class.{rangeOf, classBy, Sorted, classFrom, classOf, classValue}
 use Rattle.floats.specs.declared.FieldRange.{FieldRange}
@@ -67,17 +68,6 @@ module _ (p w b : ℕ) (some : 0 < p) where
 
   pub nan-bits : 2 ^ w - 1 ≤ fieldOf p w b → (fractionOf p b ≡ 0 → ⊥) → infBits p w < b % 2 ^ (w + p - 1)
   nan-bits l e = omega (arith, ones-bits l)
-
--- ---- the value of the bits x below a sign
-module _ (p w s : ℕ) (neg : Bool) (x : ℕ) where
-  pub is-num : x < infBits p w → floatValue p w s neg x ≡ num (signed neg (bitsMag p s x))
-  is-num h = simp (lt-ltb x (infBits p w) h)
-
-  pub is-inf : x ≡ infBits p w → floatValue p w s neg x ≡ inf neg
-  is-inf e = simp (le-ltb x (infBits p w) (omega arith), eq-eqb x (infBits p w) e)
-
-  pub is-nan : infBits p w < x → floatValue p w s neg x ≡ nan
-  is-nan h = simp (le-ltb x (infBits p w) (omega arith), ne-eqb x (infBits p w) (λ (e : x ≡ infBits p w). omega arith))
 
 -- ---- the three ranges of an exponent field
 module _ (w x : ℕ) where

@@ -73,30 +73,30 @@ fn parts_32(b: u32) {
 fn neighbours_64(b: u64) {
     text(b"next_down_f64, next_up_f64");
     number(b, 16);
-    number(floats::next_down_f64(b), 16);
-    number(floats::next_up_f64(b), 16);
+    number(neighbours::next_down_f64(b), 16);
+    number(neighbours::next_up_f64(b), 16);
     end();
 }
 
 fn neighbours_32(b: u32) {
     text(b"next_down_f32, next_up_f32");
     number(wide(b), 8);
-    number(wide(floats::next_down_f32(b)), 8);
-    number(wide(floats::next_up_f32(b)), 8);
+    number(wide(neighbours::next_down_f32(b)), 8);
+    number(wide(neighbours::next_up_f32(b)), 8);
     end();
 }
 
 fn widened(b: u32) {
     text(b"widen");
     number(wide(b), 8);
-    number(floats::widen(b), 16);
+    number(widening::widen(b), 16);
     end();
 }
 
 fn narrowed_nan(b: u64) {
     text(b"narrow_nan");
     number(b, 16);
-    number(wide(floats::narrow_nan(b)), 8);
+    number(wide(widening::narrow_nan(b)), 8);
     end();
 }
 

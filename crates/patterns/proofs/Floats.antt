@@ -24,6 +24,17 @@ use Rattle.patterns.specs.Value.{nan, inf, num, negative, floatValue, va
 use Rattle.patterns.specs.Pattern.{withSign, magBits, infinity}
 use Rattle.grid.proofs.Int.{dn-neg, ints, up-neg}
 
+-- ---- the value of the bits x below a sign
+module _ (p w s : ℕ) (neg : Bool) (x : ℕ) where
+  pub is-num : x < infBits p w → floatValue p w s neg x ≡ num (signed neg (bitsMag p s x))
+  is-num h = simp (lt-ltb x (infBits p w) h)
+
+  pub is-inf : x ≡ infBits p w → floatValue p w s neg x ≡ inf neg
+  is-inf e = simp (le-ltb x (infBits p w) (omega arith), eq-eqb x (infBits p w) e)
+
+  pub is-nan : infBits p w < x → floatValue p w s neg x ≡ nan
+  is-nan h = simp (le-ltb x (infBits p w) (omega arith), ne-eqb x (infBits p w) (λ (e : x ≡ infBits p w). omega arith))
+
 pub abs-signed : (neg : Bool) (m : ℕ) → natAbs (signed neg m) ≡ m
 abs-signed false m = refl
 abs-signed true zero = refl

@@ -9,11 +9,12 @@ use lib.Dec.{leb, eqb, lit<}
 use lib.Ieee.{Float, Format, binary32, binary64, prec, low, hid, ones, top, up, down, odd, ofFields, ofBits}
 use lib.Ieee.Exact.{HasValue, odd-sign}
 use lib.Pow.{pow-pos, pow-add, mod-mod-pow}
-use borrow.Author.Tests.{lt-ltb, le-ltb, eq-eqb, ne-eqb, eqb-true, eqb-false}
+use borrow.Author.Tests.{eqb-true, eqb-false}
 use Rattle.grid.specs.Round.{signed}
 use Rattle.patterns.specs.Float.{fieldMag, bitsMag, infBits}
 use Rattle.patterns.specs.Kind.{Kind, binary}
 use Rattle.patterns.specs.Value.{Value, nan, inf, num, floatValue, valueOf}
+use Rattle.patterns.proofs.Floats.{is-num, is-inf, is-nan}
 use lib.Ieee as F
 
 -- a value of the language and a pattern's value are one: a NaN, the same infinity, or the same number with the same sign
@@ -39,16 +40,8 @@ module _ (f : Format) (w s : ℕ) (o : ones f ≡ 2 ^ w - 1) (some : 0 < ones f)
   inf-is : infBits (prec f) w ≡ ones f * hid f
   inf-is = ap (λ (z : ℕ). z * hid f) (sym o)
 
-  is-num : x < ones f * hid f → floatValue (prec f) w s neg x ≡ num (signed neg (bitsMag (prec f) s x))
-  is-num h = simp (lt-ltb x (infBits (prec f) w) (subst (λ (z : ℕ). x < z) (sym inf-is) h))
-
-  is-inf : x ≡ ones f * hid f → floatValue (prec f) w s neg x ≡ inf neg
-  is-inf h = let e : x ≡ infBits (prec f) w = h ∙ sym inf-is in simp (le-ltb x (infBits (prec f) w) (le-of-eq (sym e)), eq-eqb x (infBits (prec f) w) e)
-
-  is-nan : ones f * hid f < x → floatValue (prec f) w s neg x ≡ nan
-  is-nan h =
-      let e : infBits (prec f) w < x = subst (λ (z : ℕ). z < x) (sym inf-is) h in
-      simp (le-ltb x (infBits (prec f) w) (omega arith), ne-eqb x (infBits (prec f) w) (λ (d : x ≡ infBits (prec f) w). omega arith))
+  below-ones : x < ones f * hid f → floatValue (prec f) w s neg x ≡ num (signed neg (bitsMag (prec f) s x))
+  below-ones h = is-num (prec f) w s neg x (subst (λ (z : ℕ). x < z) (sym inf-is) h)
 
   module _ (small : x / hid f ≤ ones f) where
     by-field : (F t : ℕ) → x / hid f ≡ F → x % hid f ≡ t → Agrees (ofFields f neg F t) (floatValue (prec f) w s neg x)
@@ -58,7 +51,7 @@ module _ (f : Format) (w s : ℕ) (o : ones f ≡ 2 ^ w - 1) (some : 0 < ones f)
         let T : t < hid f = subst (λ (z : ℕ). z < hid f) b (mod-lt x (pow-pos (prec f - 1))) in
         let h : x < ones f * hid f = lt-of-lt-of-le (omega arith) (le-trans (le-of-eq (sym (one-mul (hid f)))) (mul-le-mul-right (hid f) some)) in
         finite (odd (prec f) neg t 0 (low f)) neg (t * 2 ^ 0 * 2 ^ s) _ (scale (odd (prec f) neg t 0 (low f)) neg (t * 2 ^ 0) (low f) s 1074 l (odd-sign (prec f) neg t 0 (low f)))
-        (is-num h ∙ ap₂ (λ (i j : ℕ). num (signed neg (fieldMag (prec f) s i j))) a b ∙ ap (λ (z : ℕ). num (signed neg (z * 2 ^ s))) (sym (mul-one t)))
+        (below-ones h ∙ ap₂ (λ (i j : ℕ). num (signed neg (fieldMag (prec f) s i j))) a b ∙ ap (λ (z : ℕ). num (signed neg (z * 2 ^ s))) (sym (mul-one t)))
     by-field (suc y) t a b = go (eqb (suc y) (ones f)) refl
       where
         X : x ≡ suc y * hid f + t
@@ -68,8 +61,8 @@ module _ (f : Format) (w s : ℕ) (o : ones f ≡ 2 ^ w - 1) (some : 0 < ones f)
         T = subst (λ (z : ℕ). z < hid f) b (mod-lt x (pow-pos (prec f - 1)))
 
         special : (c : Bool) → eqb t 0 ≡ c → suc y ≡ ones f → Agrees (cond c (F.inf neg) F.nan) (floatValue (prec f) w s neg x)
-        special true c e = is-inf (X ∙ ap₂ (λ (i j : ℕ). i * hid f + j) e (eqb-true t 0 c) ∙ add-zero (ones f * hid f))
-        special false c e = is-nan (omega (arith, X, eqb-false t 0 c, ap (λ (z : ℕ). z * hid f) e))
+        special true c e = is-inf (prec f) w s neg x (X ∙ ap₂ (λ (i j : ℕ). i * hid f + j) e (eqb-true t 0 c) ∙ add-zero (ones f * hid f) ∙ sym inf-is)
+        special false c e = is-nan (prec f) w s neg x (omega (arith, inf-is, X, eqb-false t 0 c, ap (λ (z : ℕ). z * hid f) e))
 
         go : (c : Bool) → eqb (suc y) (ones f) ≡ c → Agrees (cond c (cond (eqb t 0) (F.inf neg) F.nan) (odd (prec f) neg (hid f + t) y (low f))) (floatValue (prec f) w s neg x)
         go true c = special (eqb t 0) refl (eqb-true (suc y) (ones f) c)
@@ -78,7 +71,7 @@ module _ (f : Format) (w s : ℕ) (o : ones f ≡ 2 ^ w - 1) (some : 0 < ones f)
             let h : x < ones f * hid f = lt-of-lt-of-le (omega (arith, X, T)) (mul-le-mul-right {m = suc (suc y)} (hid f) less) in
             let q = hid f + t in
             finite (odd (prec f) neg q y (low f)) neg (q * 2 ^ y * 2 ^ s) _ (scale (odd (prec f) neg q y (low f)) neg (q * 2 ^ y) (low f) s 1074 l (odd-sign (prec f) neg q y (low f)))
-            (is-num h ∙ ap₂ (λ (i j : ℕ). num (signed neg (fieldMag (prec f) s i j))) a b ∙ ap (λ (z : ℕ). num (signed neg z)) (ap (λ (z : ℕ). q * z) (pow-add 2 y s) ∙ sym (mul-assoc q (2 ^ y) (2 ^ s))))
+            (below-ones h ∙ ap₂ (λ (i j : ℕ). num (signed neg (fieldMag (prec f) s i j))) a b ∙ ap (λ (z : ℕ). num (signed neg z)) (ap (λ (z : ℕ). q * z) (pow-add 2 y s) ∙ sym (mul-assoc q (2 ^ y) (2 ^ s))))
 
   pub fields-agree : x / hid f ≤ ones f → Agrees (ofFields f neg (x / hid f) (x % hid f)) (floatValue (prec f) w s neg x)
   fields-agree h = by-field h (x / hid f) (x % hid f) refl refl

@@ -3,7 +3,6 @@
 use mathlib.Core.Path.{sym, ap, ap₂, subst, _∙_}
 use Prim.Native.Nat.{ℕ, _^_, _<_}
 use Rattle.patterns.specs.Kind.{bits}
-use Rattle.kinds.specs.Codes.{kindOf}
 use Rattle.kinds.specs.declared.Outcome.the-variants.{Stored}
 use Rattle.element.specs.Convert.{unmapped}
 use Rattle.element.proofs.FloatToInt.{nine-of}

@@ -1,11 +1,11 @@
--- `floats::next_up_f64` meets its contract: the mask takes the sign's bit away.
+-- `neighbours::next_up_f64` meets its contract: the mask takes the sign's bit away.
 -- Assumes nothing.
 use mathlib.Core.Path.{_∙_}
 use native.Mathlib.Omega.{arith}
 use lib.Dec.{lit<, lit≤}
-use Rattle.floats.proofs.Successor.{masked}
-use Rattle.floats.proofs.next_up_f64.Statement.{statement}
-use Rattle.floats.proofs.next_up_f64.Tie as tie
+use Rattle.neighbours.proofs.Successor.{masked}
+use Rattle.neighbours.proofs.next_up_f64.Statement.{statement}
+use Rattle.neighbours.proofs.next_up_f64.Tie as tie
 
 pub next-up-f64-spec : {M : Type 1} → statement M
 next-up-f64-spec = tie.close (tie.spec (λ c κs. record { some = lit< tt; most = lit≤ tt; fits = omega arith }) (λ c. c .next-up .ensures .0 ∙ masked 53 11 (c .before .args .b)))

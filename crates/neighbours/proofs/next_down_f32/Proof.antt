@@ -1,10 +1,10 @@
--- `floats::next_down_f32` meets its contract: the exclusive or with the sign's bit gives the number of the other sign.
+-- `neighbours::next_down_f32` meets its contract: the exclusive or with the sign's bit gives the number of the other sign.
 -- Assumes nothing.
 use native.Mathlib.Omega.{arith}
 use borrow.Author.Needs.{needs}
-use Rattle.floats.proofs.Mirror.{turned}
-use Rattle.floats.proofs.next_down_f32.Statement.{statement}
-use Rattle.floats.proofs.next_down_f32.Tie as tie
+use Rattle.neighbours.proofs.Mirror.{turned}
+use Rattle.neighbours.proofs.next_down_f32.Statement.{statement}
+use Rattle.neighbours.proofs.next_down_f32.Tie as tie
 
 returns : tie.Need-returns
 returns c = turned 24 8 (c .before .args .b) (c .next-up-f32 .result) (omega arith) (omega arith) (omega arith) (c .next-up-f32 .ensures)

@@ -1,12 +1,12 @@
--- `floats::narrow_nan` meets its contract: the sign's bit and the top of the fraction are moved, and the highest fraction bit is set.
+-- `widening::narrow_nan` meets its contract: the sign's bit and the top of the fraction are moved, and the highest fraction bit is set.
 -- Assumes nothing.
 use Prim.Native.Nat.{_/_, _^_}
 use native.Mathlib.Omega.{arith}
 use lib.Bits.{and-mask, mask-lt}
 use borrow.Author.Needs.{needs}
-use Rattle.floats.proofs.Widening.{narrow-is}
-use Rattle.floats.proofs.narrow_nan.Statement.{statement}
-use Rattle.floats.proofs.narrow_nan.Tie as tie
+use Rattle.widening.proofs.Widening.{narrow-is}
+use Rattle.widening.proofs.narrow_nan.Statement.{statement}
+use Rattle.widening.proofs.narrow_nan.Tie as tie
 
 add-result-2 : tie.Need-add-result-2
 add-result-2 c = omega (arith, mask-lt (c .args .b / 2 ^ 29) 22)

@@ -1,13 +1,13 @@
--- `floats::next_up` meets its contract: the tests are those by which `upBy` picks its case.
+-- `neighbours::next_up` meets its contract: the tests are those by which `upBy` picks its case.
 -- Assumes nothing.
 use mathlib.Core.Path.{sym}
 use Prim.Native.Nat.{_-_}
 use native.Mathlib.Omega.{arith}
 use lib.Bits.{bitAnd}
 use borrow.Author.Needs.{needs}
-use Rattle.floats.proofs.Successor.{up-nan, up-infinite, up-zero, up-negative, up-positive}
-use Rattle.floats.proofs.next_up.Statement.{statement}
-use Rattle.floats.proofs.next_up.Tie as tie
+use Rattle.neighbours.proofs.Successor.{up-nan, up-infinite, up-zero, up-negative, up-positive}
+use Rattle.neighbours.proofs.next_up.Statement.{statement}
+use Rattle.neighbours.proofs.next_up.Tie as tie
 
 returns : tie.Need-returns
 returns c = let a = c .before .args in (sym (up-nan (a .infinity) (a .sign) (a .b) (bitAnd (a .b) (a .sign - 1)) (c .if1 .taken)), c .before .pre .fits)

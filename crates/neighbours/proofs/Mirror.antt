@@ -18,8 +18,8 @@ use Rattle.patterns.specs.Kind.{Kind, binary}
 use Rattle.patterns.specs.Value.{Value, nan, inf, num, negative, floatValue, valueOf}
 use Rattle.patterns.specs.Pattern.{withSign}
 use Rattle.patterns.proofs.Floats as floats
-use Rattle.floats.specs.Next.{Below, LeastAbove, GreatestBelow, UpFrom, DownFrom, NextDown, nextUp, nextDown, opposite}
-use Rattle.floats.proofs.Successor.{next-up-is}
+use Rattle.neighbours.specs.Next.{Below, LeastAbove, GreatestBelow, UpFrom, DownFrom, NextDown, nextUp, nextDown, opposite}
+use Rattle.neighbours.proofs.Successor.{next-up-is}
 
 -- ---- the value of the other sign
 abbrev minus : Value → Value

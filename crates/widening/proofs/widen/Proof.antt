@@ -1,11 +1,11 @@
--- `floats::widen` meets its contract: in each arm the sum is the sign over the bits of the number, the infinity or the NaN in f64.
+-- `widening::widen` meets its contract: in each arm the sum is the sign over the bits of the number, the infinity or the NaN in f64.
 -- Assumes nothing.
 use native.Mathlib.Omega.{arith}
 use lib.Bits.{mask-lt}
 use borrow.Author.Needs.{needs}
-use Rattle.floats.proofs.Widening.{fraction-few, low-lt, widen-low, widen-normal, widen-infinite, widen-nan}
-use Rattle.floats.proofs.widen.Statement.{statement}
-use Rattle.floats.proofs.widen.Tie as tie
+use Rattle.widening.proofs.Widening.{fraction-few, low-lt, widen-low, widen-normal, widen-infinite, widen-nan}
+use Rattle.widening.proofs.widen.Statement.{statement}
+use Rattle.widening.proofs.widen.Tie as tie
 
 widen-subnormal-requires : tie.Need-widen-subnormal-requires
 widen-subnormal-requires c κs =

@@ -1,11 +1,11 @@
--- `floats::widen_subnormal` meets its contract: the leading zeros say by how many places the fraction moves up, and what its field is.
+-- `widening::widen_subnormal` meets its contract: the leading zeros say by how many places the fraction moves up, and what its field is.
 -- Assumes nothing.
 use native.Mathlib.Nat.{pos-of-ne-zero}
 use native.Mathlib.Omega.{arith}
 use borrow.Author.Needs.{needs}
-use Rattle.floats.proofs.Widening.{low-zero, low-shift, low-moved-lt, low-sum}
-use Rattle.floats.proofs.widen_subnormal.Statement.{statement}
-use Rattle.floats.proofs.widen_subnormal.Tie as tie
+use Rattle.widening.proofs.Widening.{low-zero, low-shift, low-moved-lt, low-sum}
+use Rattle.widening.proofs.widen_subnormal.Statement.{statement}
+use Rattle.widening.proofs.widen_subnormal.Tie as tie
 
 returns : tie.Need-returns
 returns c = low-zero (c .before .args .fraction) (c .if1 .taken)

@@ -19,13 +19,13 @@ use Rattle.patterns.specs.Kind.{binary, f32, f64}
 use Rattle.patterns.specs.Value.{negative, valueOf}
 use Rattle.patterns.specs.Pattern.{withSign, magBits, patternOf, infinity, quiet, nanPattern, asF64, asF64From}
 use Rattle.patterns.proofs.Encode.{encode}
-use Rattle.patterns.proofs.Floats.{abs-signed, bits-again, on-bits}
+use Rattle.patterns.proofs.Floats.{abs-signed, bits-again, on-bits, is-num, is-inf, is-nan}
 use Rattle.floats.specs.Parts.{fieldOf, fractionOf, partsOf}
 use Rattle.floats.specs.declared.Parts.{Parts}
-use Rattle.floats.proofs.Fields.{exponent-is, fields-mag, fraction-lt, finite-bits, infinite-bits, nan-bits, is-num, is-inf, is-nan}
+use Rattle.floats.proofs.Fields.{exponent-is, fields-mag, fraction-lt, finite-bits, infinite-bits, nan-bits}
 use Rattle.grid.proofs.Picked.{pick-own}
 use Rattle.patterns.proofs.Floats as floats
 use Rattle.floats.proofs.Fields as fields
 
 -- ---- the bits of a magnitude in a format of p bits and smallest spacing 2 ^ s
 module _ (p s : ℕ) (two : 2 ≤ p) where

@@ -16,11 +16,10 @@ use Rattle.patterns.specs.Kind.{binary, f32}
 use Rattle.patterns.specs.Value.{inf, num, negative, floatValue, valueOf}
 use Rattle.patterns.specs.Pattern.{withSign}
 use Rattle.patterns.proofs.Encode.{bits-mono}
-use Rattle.patterns.proofs.Floats.{abs-signed}
+use Rattle.patterns.proofs.Floats.{abs-signed, is-num, is-inf, is-nan}
 use Rattle.patterns.proofs.Floats as floats
-use Rattle.floats.specs.Next.{LeastAbove, NextUp, upBy, upFrom, nextUp}
-use Rattle.floats.proofs.Fields.{is-num, is-inf, is-nan}
-use Rattle.floats.proofs.Ranks.{no-bits, below-ranks, ranks-below}
+use Rattle.neighbours.specs.Next.{LeastAbove, NextUp, upBy, upFrom, nextUp}
+use Rattle.neighbours.proofs.Ranks.{no-bits, below-ranks, ranks-below}
 
 -- ---- the cases of `upBy`
 module _ (i h b x : ℕ) where

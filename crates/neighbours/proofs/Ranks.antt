@@ -14,9 +14,8 @@ use Rattle.grid.proofs.Neighbours.{cut}
 use Rattle.patterns.specs.Float.{bitsMag, infBits}
 use Rattle.patterns.specs.Value.{Value, nan, inf, num, floatValue}
 use Rattle.patterns.proofs.Encode.{encode, bits-mono}
-use Rattle.patterns.proofs.Floats.{inf-pos}
-use Rattle.floats.specs.Next.{Below}
-use Rattle.floats.proofs.Fields.{is-num, is-inf, is-nan}
+use Rattle.patterns.proofs.Floats.{inf-pos, is-num, is-inf, is-nan}
+use Rattle.neighbours.specs.Next.{Below}
 
 -- ---- a growing function of magnitudes that has 0 at 0 keeps the order of signed numbers
 module _ (f : ℕ → ℕ) (none : f 0 ≡ 0) (grows : (x y : ℕ) → x < y → f x < f y) where
