@@ -21,6 +21,7 @@ use Rattle.patterns.specs.Kind.{Kind, integer, binary, f32, f64, bits}
 use Rattle.patterns.specs.Value.{Value, nan, inf, num, negative, floatValue, valueOf}
 use Rattle.patterns.specs.Pattern.{quiet, nanPattern, asF64, asF64From}
 use Rattle.patterns.proofs.Floats.{nan-back}
+use Rattle.patterns.proofs.Integers.{no-integer-nan}
 use Rattle.kinds.specs.Codes.{kindOf, roundingOf, rangeOf}
 use Rattle.kinds.specs.declared.OutOfRangeMode.{OutOfRangeMode}
 use Rattle.kinds.specs.declared.Outcome.{Outcome}
@@ -42,10 +43,6 @@ any-sign p w s neg neg′ x = go (ltb x (infBits p w)) (eqb x (infBits p w))
     go true d e = let z : _≡_ {A = ℕ} 0 1 = cc in absurd (omega arith)
     go false true e = let z : _≡_ {A = ℕ} 0 1 = cc in absurd (omega arith)
     go false false e = refl
-
-no-integer-nan : (s : Bool) (n b : ℕ) → valueOf (integer s n) b ≡ nan → ⊥
-unfolding valueOf
-no-integer-nan s n b e = let z : _≡_ {A = ℕ} 0 1 = cc in omega arith
 
 below-top : (b n : ℕ) → b % 2 ^ n % 2 ^ (n - 1) ≡ b % 2 ^ (n - 1)
 below-top b zero = mod-mod b 1

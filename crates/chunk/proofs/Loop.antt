@@ -2,8 +2,8 @@
 -- Assumes nothing.
 use mathlib.Core.Path.{_≡_, refl, sym, ap, subst, _∙_}
 use mathlib.Core.List.{List, _++_}
-use Prim.Native.Nat.{suc, ℕ, _+_, _-_, _*_, _≤_, _<_}
-use native.Mathlib.Nat.{le-of-eq, le-trans, mul-le-mul-right}
+use Prim.Native.Nat.{ℕ, _+_, _-_, _*_, _≤_, _<_}
+use native.Mathlib.Nat.{le-of-eq, le-trans, mul-le-mul-right, suc-mul}
 use native.Mathlib.Numerals.{add-one}
 use native.Mathlib.Omega.{arith}
 use lib.ListN.{length-append, length-drop, length-take, length, take, drop}
@@ -56,10 +56,7 @@ module _ (S : E.Settings) (sw dw : ℕ) (src dst₀ : List ℕ) (a e : ℕ) wher
           (ap (λ (o : Outcome). answerNext o i A.Converted) outcome-is ∙ sym (g .0), c .bytes ∙ sym (not-stored r dst y dw f) ∙ g .1)
 
       within : i * dw + dw ≤ length dst
-      within = subst (λ (z : ℕ). i * dw + dw ≤ z) (sym (at .same)) (le-trans (le-trans (le-of-eq (next i dw)) (mul-le-mul-right dw more)) room)
-        where
-          next : (i w : ℕ) → i * w + w ≡ suc i * w
-          next i w = omega arith
+      within = subst (λ (z : ℕ). i * dw + dw ≤ z) (sym (at .same)) (le-trans (le-trans (le-of-eq (sym (suc-mul i dw))) (mul-le-mul-right dw more)) room)
 
       stored-at : (b : ℕ) → r ≡ Stored b → dst′ ≡ take (i * dw) dst ++ (toLe dw b ++ drop dw (drop (i * dw) dst))
       stored-at b f =
@@ -84,10 +81,7 @@ module _ (S : E.Settings) (sw dw : ℕ) (src dst₀ : List ℕ) (a e : ℕ) wher
 -- ---- what a turn asks, and that the places stay in the slices
 module _ (s : Settings) (keys targets src dst₀ : List ℕ) (a e : ℕ) (ask : RunIn s keys targets src dst₀ a e) (i x y : ℕ) (dst : List ℕ) (at : At (settingsFor s keys targets) (s .sw) (s .dw) src dst₀ a e i x y dst) (more : i < e) where
   fit : (w l : ℕ) → e * w ≤ l → i * w + w ≤ l
-  fit w l h = le-trans (le-of-eq (next i w)) (le-trans (mul-le-mul-right w more) h)
-    where
-      next : (i w : ℕ) → i * w + w ≡ suc i * w
-      next i w = omega arith
+  fit w l h = le-trans (le-of-eq (sym (suc-mul i w))) (le-trans (mul-le-mul-right w more) h)
 
   pub source-end : x + s .sw ≤ length src
   source-end = subst (λ (z : ℕ). z + s .sw ≤ length src) (sym (at .source)) (fit (s .sw) (length src) (ask .source))

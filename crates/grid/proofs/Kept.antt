@@ -3,7 +3,7 @@
 use mathlib.Core.Path.{_≡_, refl, sym, ap, _∙_, subst}
 use mathlib.Core.Bool.{Bool, true, false}
 use Prim.Native.Nat.{ℕ, zero, suc, _+_, _-_, _*_, _/_, _%_, _^_, _≤_, _<_, max}
-use native.Mathlib.Nat.{le-trans, le-of-eq, lt-of-lt-of-le, div-add-mod', mul-div-mul-right, mul-le-mul-right, mul-lt-mul-of-pos-right, lt-of-mul-lt-mul-right, mul-assoc, mul-right-comm, mul-pos, add-left-cancel, le-antisymm, zero-mul}
+use native.Mathlib.Nat.{le-trans, le-of-eq, lt-of-lt-of-le, div-add-mod', mul-div-mul-right, mul-le-mul-right, mul-lt-mul-of-pos-right, lt-of-mul-lt-mul-right, mul-right-comm, mul-pos, add-left-cancel, le-antisymm, zero-mul}
 use native.Mathlib.Omega.{arith}
 use lib.Ieee.{size}
 use lib.Ieee.Digits.{size-lt, size-le, size-reaches}
@@ -12,7 +12,7 @@ use lib.Pow.{pow-pos, pow-mono, pow-add, shl-lt}
 use Rattle.grid.specs.declared.RoundingMode.{RoundingMode}
 use Rattle.grid.specs.Grid.{Grid, whole, float, OnMag, Sound}
 use Rattle.grid.specs.Round.{unitExp, step, pickMag, pick, flip, signed, ruleFor}
-use Rattle.grid.proofs.Neighbours.{cut}
+use Rattle.grid.proofs.Neighbours.{cut, pow-split, as-units}
 use Rattle.grid.proofs.Picked.{picked-pos}
 use Rattle.grid.proofs.Order.{zero-on}
 use Rattle.grid.proofs.Step.{step-alike}
@@ -70,19 +70,13 @@ pub pick-shift : (g : Grid) (r : RoundingMode) (m e : ℕ) → 0 < m → e ≤ u
     → pickMag g r (m * 2 ^ e) ≡ step r (m / 2 ^ (unitAt g m e - e)) (m % 2 ^ (unitAt g m e - e)) (2 ^ (unitAt g m e - e)) * 2 ^ unitAt g m e
 pick-shift g r m e h l =
     let k = unitAt g m e in
-    let a : 2 ^ k ≡ 2 ^ (k - e) * 2 ^ e = ap (λ (x : ℕ). 2 ^ x) (back k e l) ∙ pow-add 2 (k - e) e in
+    let a = pow-split k e l in
     scaled g r m (2 ^ (k - e)) (2 ^ e) (pow-pos e) (ap (λ (x : ℕ). 2 ^ x) (unit-is g m e h) ∙ a)
     ∙ ap (λ (x : ℕ). step r (m / 2 ^ (k - e)) (m % 2 ^ (k - e)) (2 ^ (k - e)) * x) (sym a)
-  where
-    back : (k e : ℕ) → e ≤ k → k ≡ k - e + e
-    back k e l = omega arith
 
 -- where it is not, the number is on the grid
 on-fine : (g : Grid) (m e : ℕ) → unitAt g m e ≤ e → OnMag g (m * 2 ^ e)
-on-fine (whole k) m e l = record { m = m * 2 ^ (e - k); e = k; is = (refl, ap (λ (x : ℕ). m * 2 ^ x) (back e k l) ∙ ap (λ (x : ℕ). m * x) (pow-add 2 (e - k) k) ∙ sym (mul-assoc m (2 ^ (e - k)) (2 ^ k))) }
-  where
-    back : (e k : ℕ) → k ≤ e → e ≡ e - k + k
-    back e k l = omega arith
+on-fine (whole k) m e l = record { m = m * 2 ^ (e - k); e = k; is = (refl, as-units m e k l) }
 on-fine (float p s) m e l = record { m = m; e = e; is = (lt-of-lt-of-le (size-lt m) (pow-mono (omega arith)), omega arith, refl) }
 
 pub pick-exact : (g : Grid) → Sound g → (r : RoundingMode) (m e : ℕ) → unitAt g m e ≤ e → pickMag g r (m * 2 ^ e) ≡ m * 2 ^ e

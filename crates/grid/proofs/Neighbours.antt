@@ -4,7 +4,7 @@ use mathlib.Core.Path.{_≡_, refl, sym, ap, subst, _∙_}
 use mathlib.Core.Logic.{_⊎_, inl, inr}
 use mathlib.Core.Bool.{Bool, true, false, not}
 use Prim.Native.Nat.{ℕ, suc, _+_, _-_, _*_, _/_, _%_, _^_, _≤_, _<_, max}
-use native.Mathlib.Nat.{le-trans, le-suc, le-of-eq, lt-of-lt-of-le, lt-of-le-of-lt, div-add-mod', mod-lt, le-div-iff-mul-le, mul-le-mul-right, mul-assoc, eq-of-mul-eq-mul-right, le-max-left}
+use native.Mathlib.Nat.{le-trans, le-suc, le-of-eq, lt-of-lt-of-le, lt-of-le-of-lt, div-add-mod', mod-lt, le-div-iff-mul-le, mul-le-mul-right, mul-assoc, eq-of-mul-eq-mul-right, le-max-left, pow-succ', sub-add-cancel}
 use native.Mathlib.Omega.{arith}
 use lib.Dec.{T, ltb, ltb→lt, nltb→le}
 use lib.Ieee.{size}
@@ -35,12 +35,12 @@ cut {C = C} a b f g = go (ltb a b) (ltb→lt a b) (nltb→le a b)
 next : (a q u : ℕ) → (a * u ≤ q * u) ⊎ (suc q * u ≤ a * u)
 next a q u = cut q a (λ (h : q < a). inr (mul-le-mul-right u h)) (λ (h : a ≤ q). inl (mul-le-mul-right u h))
 
+pub pow-split : (k e : ℕ) → e ≤ k → 2 ^ k ≡ 2 ^ (k - e) * 2 ^ e
+pow-split k e l = ap (λ (x : ℕ). 2 ^ x) (sym (sub-add-cancel l)) ∙ pow-add 2 (k - e) e
+
 -- m * 2 ^ e in units of 2 ^ k, for k ≤ e
-as-units : (m e k : ℕ) → k ≤ e → m * 2 ^ e ≡ m * 2 ^ (e - k) * 2 ^ k
-as-units m e k h = ap (λ (x : ℕ). m * x) (ap (λ (x : ℕ). 2 ^ x) (back e k h) ∙ pow-add 2 (e - k) k) ∙ sym (mul-assoc m (2 ^ (e - k)) (2 ^ k))
-  where
-    back : (e k : ℕ) → k ≤ e → e ≡ e - k + k
-    back e k h = omega arith
+pub as-units : (m e k : ℕ) → k ≤ e → m * 2 ^ e ≡ m * 2 ^ (e - k) * 2 ^ k
+as-units m e k h = ap (λ (x : ℕ). m * x) (pow-split e k h) ∙ sym (mul-assoc m (2 ^ (e - k)) (2 ^ k))
 
 -- ---- a whole number of units: the facts that need no more
 div-low : (n u : ℕ) → n / u * u ≤ n
@@ -85,11 +85,9 @@ cell-whole k n = let q = n / 2 ^ k in record {
 }
 
 -- ---- m * 2 ^ e with m below 2 ^ p and e at least s
-double : (a : ℕ) → 2 ^ suc a ≡ 2 * 2 ^ a
-double a = omega arith
 
 pub pow-twice-pred : (p : ℕ) → 0 < p → 2 ^ p ≡ 2 * 2 ^ (p - 1)
-pow-twice-pred p h = ap (λ (x : ℕ). 2 ^ x) (back p h) ∙ double (p - 1)
+pow-twice-pred p h = ap (λ (x : ℕ). 2 ^ x) (back p h) ∙ pow-succ' 2 (p - 1)
   where
     back : (p : ℕ) → 0 < p → p ≡ suc (p - 1)
     back p h = omega arith
@@ -122,7 +120,7 @@ module _ (p s k m : ℕ) (two : 2 ≤ p) (sk : s ≤ k) (small : m ≤ 2 ^ p) (f
       let e : m ≡ 2 ^ p = omega arith in
       let a = pow-twice-pred p P in
       let b = pow-pos (p - 1) in
-      (omega arith, omega arith, ap (λ (x : ℕ). x * 2 ^ k) (e ∙ a) ∙ omega (arith, ap (λ (x : ℕ). 2 ^ (p - 1) * x) (double k)))
+      (omega arith, omega arith, ap (λ (x : ℕ). x * 2 ^ k) (e ∙ a) ∙ omega (arith, ap (λ (x : ℕ). 2 ^ (p - 1) * x) (pow-succ' 2 k)))
 
   not-k : (m′ e′ : ℕ) → 2 ^ p ≤ m → Written (float p s) (m * 2 ^ k) m′ e′ → suc k ≤ e′
   not-k m′ e′ h w = cut k e′ (λ l. l)

@@ -3,7 +3,7 @@
 use mathlib.Core.Path.{_≡_, sym, ap, subst, _∙_}
 use mathlib.Core.Bool.{Bool}
 use Prim.Native.Nat.{ℕ, _+_, _-_, _*_, _/_, _%_, _^_, _≤_, _<_, max}
-use native.Mathlib.Nat.{div-add-mod', mul-mod-left, mul-assoc, pos-of-ne-zero}
+use native.Mathlib.Nat.{div-add-mod', mul-mod-left, mul-assoc, pos-of-ne-zero, sub-add-cancel}
 use native.Mathlib.Omega.{arith}
 use lib.Ieee.{size}
 use lib.Ieee.Digits.{size-lt, size-le}
@@ -27,13 +27,10 @@ pick-whole-units g r n h =
 
 no-rest : (m j k : ℕ) → j ≤ k → m * 2 ^ k % 2 ^ j ≡ 0
 no-rest m j k h =
-    ap (λ (x : ℕ). m * 2 ^ x % 2 ^ j) (back j k h)
+    ap (λ (x : ℕ). m * 2 ^ x % 2 ^ j) (sym (sub-add-cancel h))
     ∙ ap (λ (x : ℕ). m * x % 2 ^ j) (pow-add 2 (k - j) j)
     ∙ ap (λ (x : ℕ). x % 2 ^ j) (sym (mul-assoc m (2 ^ (k - j)) (2 ^ j)))
     ∙ mul-mod-left (m * 2 ^ (k - j)) (2 ^ j)
-  where
-    back : (j k : ℕ) → j ≤ k → k ≡ k - j + j
-    back j k h = omega arith
 
 -- m has no more digits than the grid keeps
 pub pick-few-digits : (p s : ℕ) (r : RoundingMode) (m k : ℕ) → s ≤ k → size m ≤ p → pickMag (float p s) r (m * 2 ^ k) ≡ m * 2 ^ k

@@ -5,7 +5,7 @@ use mathlib.Core.Logic.{inl, inr}
 use mathlib.Core.Bool.{Bool, true, false, _&&_, cond}
 use mathlib.Core.List.{List}
 use Prim.Native.Nat.{ℕ, _+_, _-_, _*_, _^_, _≤_, _<_}
-use native.Mathlib.Nat.{mul-le-mul}
+use native.Mathlib.Nat.{mul-le-mul, add-sub-cancel-left}
 use native.Mathlib.Omega.{arith}
 use lib.Dec.{ltb, leb}
 use lib.ListN.{length, getD, take, drop, length-drop}
@@ -150,11 +150,8 @@ module _ (s : List ℕ) (z : refusalOf s ≡ 0) where
     call-listed =
         ap cut laid
         ∙ ap (λ (z : List ℕ). reportOf (chunkOf z (take (keysEnd s - 6) (drop 6 s)) (take (mapEnd s - keysEnd s) (drop (keysEnd s) s)) (getD s 0 0) (getD s 1 0) (getD s 2 0) (getD s 3 0))) (part-to-end s (mapEnd s))
-        ∙ ap₂ (λ (p q : ℕ). reportOf (chunkOf (elements s) (take p (drop 6 s)) (take q (drop (keysEnd s) s)) (getD s 0 0) (getD s 1 0) (getD s 2 0) (getD s 3 0))) (less 6 (entries s * width (kindOf (getD s 0 0)))) (less (keysEnd s) (entries s * width (kindOf (getD s 1 0))))
+        ∙ ap₂ (λ (p q : ℕ). reportOf (chunkOf (elements s) (take p (drop 6 s)) (take q (drop (keysEnd s) s)) (getD s 0 0) (getD s 1 0) (getD s 2 0) (getD s 3 0))) (add-sub-cancel-left 6 (entries s * width (kindOf (getD s 0 0)))) (add-sub-cancel-left (keysEnd s) (entries s * width (kindOf (getD s 1 0))))
         ∙ called
-      where
-        less : (a b : ℕ) → a + b - a ≡ b
-        less a b = omega arith
 
 -- ---- what a refusal tells
 module _ (s : List ℕ) (number : ℕ) (is : number ≡ refusalOf s) where

@@ -4,7 +4,7 @@ use mathlib.Core.Path.{_≡_, refl, sym, ap, ap₂, subst, _∙_}
 use mathlib.Core.Bool.{Bool, true, false, cond}
 use mathlib.Core.List.{List, [], _∷_}
 use Prim.Native.Nat.{ℕ, suc, _+_, _-_, _*_, _^_, _≤_, _<_}
-use native.Mathlib.Nat.{mul-le-mul-right}
+use native.Mathlib.Nat.{mul-le-mul-right, sub-eq-zero-of-le}
 use native.Mathlib.Numerals.{add-one}
 use native.Mathlib.Omega.{arith}
 use lib.ListN.{length}
@@ -54,10 +54,7 @@ module _ {b : ℕ} {keys targets : List ℕ} {n from sw dw : ℕ} where
       whole n = omega arith
 
   pub all-passed : {j : ℕ} → Passed b keys targets n from sw dw j → n ≤ j → Missing ≡ lookupFrom b keys targets from sw dw 0 n
-  all-passed {j = j} P h = sym (P .same ∙ ap (lookupFrom b keys targets from sw dw j) (none n j h))
-    where
-      none : (n j : ℕ) → n ≤ j → n - j ≡ 0
-      none n j h = omega arith
+  all-passed {j = j} P h = sym (P .same ∙ ap (lookupFrom b keys targets from sw dw j) (sub-eq-zero-of-le h))
 
   module _ (M : MapBytes b keys targets n from sw dw) {j : ℕ} (P : Passed b keys targets n from sw dw j) (h : j < n) where
     -- the entry at j lies within the bytes of n entries

@@ -7,14 +7,11 @@ use native.Mathlib.Omega.{arith}
 use lib.Dec.{T}
 use lib.IntN.{ℤ}
 use lib.Signed.{leZ, leZ-yes, _≤ℤ_, ≤ℤ-refl}
+use lib.Ieee.Bits.{is-true}
 use Rattle.grid.proofs.Int.{ints, →eq}
 use Rattle.patterns.specs.Kind.{Kind}
 use Rattle.patterns.specs.Value.{Value, nan, inf, num, valueOf}
 use Rattle.cast_spec.specs.Element.{matches}
-
-is-true : (b : Bool) → T b → b ≡ true
-is-true true t = refl
-is-true false t = absurd t
 
 pub equal-numbers : (x y : ℤ) → leZ x y && leZ y x ≡ true → x ≡ y
 equal-numbers x y e = go (leZ x y) (leZ y x) leZ-yes leZ-yes e

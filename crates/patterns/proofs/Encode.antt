@@ -3,7 +3,7 @@
 use mathlib.Core.Path.{_≡_, refl, sym, ap, ap₂, _∙_}
 use Prim.Native.Nat.{ℕ, zero, suc, _+_, _-_, _*_, _/_, _%_, _^_, _≤_, _<_}
 use native.Mathlib.Decide.{le-ind}
-use native.Mathlib.Nat.{le-refl, le-of-eq, lt-of-lt-of-le, lt-of-le-of-lt, mul-lt-mul-of-pos-right, div-add-mod', mod-lt, zero-add, suc-add, lt-trans, zero-mul, le-antisymm, le-of-lt}
+use native.Mathlib.Nat.{le-refl, le-of-eq, lt-of-lt-of-le, lt-of-le-of-lt, mul-lt-mul-of-pos-right, div-add-mod', mod-lt, zero-add, suc-add, lt-trans, zero-mul, le-antisymm, le-of-lt, pow-succ', suc-mul}
 use native.Mathlib.Omega.{arith}
 use lib.Arith.{digits-div, digits-mod}
 use lib.Pow.{pow-pos, pow-add}
@@ -34,10 +34,7 @@ encode p s k q P small full = cut q (2 ^ (p - 1))
     ∙ twice (2 ^ (p - 1)) (k + s) (suc k + s) (omega arith) ∙ ap (λ (z : ℕ). z * 2 ^ (k + s)) (sym e)))
   where
     twice : (h i j : ℕ) → j ≡ suc i → h * 2 ^ j ≡ 2 * h * 2 ^ i
-    twice h i j e = ap (λ (z : ℕ). h * 2 ^ z) e ∙ omega (arith, ap (λ (z : ℕ). h * z) (dbl i))
-      where
-        dbl : (i : ℕ) → 2 ^ suc i ≡ 2 * 2 ^ i
-        dbl i = omega arith
+    twice h i j e = ap (λ (z : ℕ). h * 2 ^ z) e ∙ omega (arith, ap (λ (z : ℕ). h * z) (pow-succ' 2 i))
 
 pub zero-bits : (p s : ℕ) → 2 ≤ p → bitsMag p s 0 ≡ 0
 zero-bits p s two = ap (bitsMag p s) (sym (none (2 ^ (p - 1)))) ∙ encode p s 0 0 (omega arith) (omega arith) (λ (h : 0 < 0). absurd (omega arith)) ∙ zero-mul (2 ^ (0 + s))
@@ -46,10 +43,7 @@ zero-bits p s two = ap (bitsMag p s) (sym (none (2 ^ (p - 1)))) ∙ encode p s 0
     none h = omega arith
 
 pub power-bits : (p s : ℕ) → 2 ≤ p → (k : ℕ) → bitsMag p s (suc k * 2 ^ (p - 1)) ≡ 2 ^ (p - 1 + (k + s))
-power-bits p s two k = ap (bitsMag p s) (turn k (2 ^ (p - 1))) ∙ encode p s k (2 ^ (p - 1)) (omega arith) (omega (arith, pow-twice-pred p (omega arith))) (λ _. omega arith) ∙ sym (pow-add 2 (p - 1) (k + s))
-  where
-    turn : (k h : ℕ) → suc k * h ≡ k * h + h
-    turn k h = omega arith
+power-bits p s two k = ap (bitsMag p s) (suc-mul k (2 ^ (p - 1))) ∙ encode p s k (2 ^ (p - 1)) (omega arith) (omega (arith, pow-twice-pred p (omega arith))) (λ _. omega arith) ∙ sym (pow-add 2 (p - 1) (k + s))
 
 -- bits whose exponent field is not 0
 pub normal-bits : (p s x y : ℕ) → x / 2 ^ (p - 1) ≡ suc y → bitsMag p s x ≡ (2 ^ (p - 1) + x % 2 ^ (p - 1)) * 2 ^ (y + s)
@@ -67,10 +61,7 @@ unfolding fieldMag
 outer p s zero t e = lt-of-lt-of-le (mul-lt-mul-of-pos-right {n = 2 ^ (p - 1) + 0} (omega arith) (pow-pos s)) (le-of-eq (ap (λ (z : ℕ). (2 ^ (p - 1) + 0) * 2 ^ z) (sym (zero-add s))))
 outer p s (suc x) t e =
     lt-of-lt-of-le (mul-lt-mul-of-pos-right {n = 2 * (2 ^ (p - 1) + 0)} (omega arith) (pow-pos (x + s)))
-    (le-of-eq (sym (ap (λ (z : ℕ). (2 ^ (p - 1) + 0) * 2 ^ z) (suc-add x s) ∙ omega (arith, ap (λ (z : ℕ). (2 ^ (p - 1) + 0) * z) (dbl (x + s))))))
-  where
-    dbl : (i : ℕ) → 2 ^ suc i ≡ 2 * 2 ^ i
-    dbl i = omega arith
+    (le-of-eq (sym (ap (λ (z : ℕ). (2 ^ (p - 1) + 0) * 2 ^ z) (suc-add x s) ∙ omega (arith, ap (λ (z : ℕ). (2 ^ (p - 1) + 0) * z) (pow-succ' 2 (x + s))))))
 
 next-bits : (p s b : ℕ) → bitsMag p s b < bitsMag p s (suc b)
 next-bits p s b =

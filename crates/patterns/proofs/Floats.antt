@@ -3,7 +3,7 @@
 use mathlib.Core.Path.{_≡_, refl, sym, ap, ap₂, _∙_, subst}
 use mathlib.Core.Bool.{Bool, true, false, cond}
 use Prim.Native.Nat.{ℕ, zero, suc, _+_, _-_, _*_, _/_, _%_, _^_, _≤_, _<_}
-use native.Mathlib.Nat.{le-trans, le-of-eq, lt-of-lt-of-le, mod-eq-of-lt, mul-lt-mul-of-pos-right, mul-le-mul-right, one-mul, le-max-left, mod-lt, mod-eq-sub-mod}
+use native.Mathlib.Nat.{le-trans, le-of-eq, lt-of-lt-of-le, mod-eq-of-lt, mul-lt-mul-of-pos-right, mul-le-mul-right, one-mul, le-max-left, mod-lt, mod-eq-sub-mod, sub-add-cancel}
 use native.Mathlib.Omega.{arith}
 use lib.Arith.{digits-mod}
 use lib.Dec.{ltb, eqb}
@@ -100,11 +100,8 @@ module _ (p w s : ℕ) (two : 2 ≤ p) (some : 0 < w) where
     mag-back =
         let e = unitExp (float p s) m in
         encode p s (e - s) (m / 2 ^ e) (omega arith) (omega (arith, kept-lt p s m)) (λ (h : 0 < e - s). kept-full p s m two (omega arith))
-        ∙ ap (λ (z : ℕ). m / 2 ^ e * 2 ^ z) (back e s (le-max-left s (size m - p)))
+        ∙ ap (λ (z : ℕ). m / 2 ^ e * 2 ^ z) (sub-add-cancel (le-max-left s (size m - p)))
         ∙ whole-units
-      where
-        back : (k s : ℕ) → s ≤ k → k - s + s ≡ k
-        back k s l = omega arith
 
     module _ (most : m ≤ bitsMag p s (infBits p w - 1)) where
       pub mag-lt : magBits p s m < infBits p w

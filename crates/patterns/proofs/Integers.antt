@@ -15,8 +15,12 @@ use Rattle.grid.specs.Round.{signed}
 use Rattle.grid.proofs.Int.{up, dn, ints, →eq, up-neg, dn-neg, sub-parts}
 use Rattle.grid.proofs.Neighbours.{pow-twice-pred}
 use Rattle.patterns.specs.Kind.{integer, highInt}
-use Rattle.patterns.specs.Value.{negative}
+use Rattle.patterns.specs.Value.{nan, negative, valueOf}
 use Rattle.patterns.specs.Pattern.{lowBits}
+
+pub no-integer-nan : (s : Bool) (n b : ℕ) → valueOf (integer s n) b ≡ nan → ⊥
+unfolding valueOf
+no-integer-nan s n b e = let z : _≡_ {A = ℕ} 0 1 = cc in omega arith
 
 -- the number of a pattern, in units of u
 abbrev pub valueIn : Bool → ℕ → ℕ → ℕ → ℤ

@@ -2,15 +2,15 @@
 -- Assumes nothing.
 use mathlib.Core.Path.{_≡_, sym, ap, subst, _∙_}
 use Prim.Native.Nat.{ℕ, _+_, _-_, _*_, _/_, _%_, _^_, _≤_, _<_, max}
-use native.Mathlib.Nat.{le-trans, mul-div-mul-right, le-max-left}
+use native.Mathlib.Nat.{le-trans, mul-div-mul-right, le-max-left, sub-add-cancel}
 use native.Mathlib.Omega.{arith}
 use lib.Ieee.{size}
-use lib.Pow.{pow-pos, pow-add}
+use lib.Pow.{pow-pos}
 use Rattle.grid.specs.declared.RoundingMode.{RoundingMode}
 use Rattle.grid.specs.Grid.{float}
 use Rattle.grid.specs.Round.{step, pickMag}
 use Rattle.patterns.specs.Float.{bitsMag}
-use Rattle.grid.proofs.Neighbours.{kept-lt, kept-full}
+use Rattle.grid.proofs.Neighbours.{pow-split, kept-lt, kept-full}
 use Rattle.grid.proofs.Kept.{size-shift, pick-shift}
 use Rattle.patterns.proofs.Encode.{encode}
 use Rattle.grid.proofs.Step.{step-ge, step-le}
@@ -21,11 +21,8 @@ module _ (p s m e : ℕ) (two : 2 ≤ p) (some : 0 < m) (over : e ≤ max s (siz
   same =
       let k = max s (size m + e - p) in
       ap (λ (z : ℕ). m * 2 ^ e / 2 ^ max s (z - p)) (size-shift m e some)
-      ∙ ap (λ (z : ℕ). m * 2 ^ e / z) (ap (λ (z : ℕ). 2 ^ z) (back k e over) ∙ pow-add 2 (k - e) e)
+      ∙ ap (λ (z : ℕ). m * 2 ^ e / z) (pow-split k e over)
       ∙ mul-div-mul-right m (2 ^ (k - e)) (pow-pos e)
-    where
-      back : (k e : ℕ) → e ≤ k → k ≡ k - e + e
-      back k e l = omega arith
 
   pub few : m / 2 ^ (max s (size m + e - p) - e) < 2 ^ p
   few = subst (λ (z : ℕ). z < 2 ^ p) same (kept-lt p s (m * 2 ^ e))
@@ -39,8 +36,5 @@ module _ (p s m e : ℕ) (two : 2 ≤ p) (some : 0 < m) (over : e ≤ max s (siz
       let j = k - e in
       let n = step r (m / 2 ^ j) (m % 2 ^ j) (2 ^ j) in
       encode p s (k - s) n (omega arith) (le-trans (step-le r (m / 2 ^ j) (m % 2 ^ j) (2 ^ j)) few) (λ (h : 0 < k - s). le-trans (many (omega arith)) (step-ge r (m / 2 ^ j) (m % 2 ^ j) (2 ^ j)))
-      ∙ ap (λ (z : ℕ). n * 2 ^ z) (back k s (le-max-left s (size m + e - p)))
+      ∙ ap (λ (z : ℕ). n * 2 ^ z) (sub-add-cancel (le-max-left s (size m + e - p)))
       ∙ sym (pick-shift (float p s) r m e some over)
-    where
-      back : (k s : ℕ) → s ≤ k → k - s + s ≡ k
-      back k s l = omega arith

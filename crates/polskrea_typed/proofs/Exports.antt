@@ -143,9 +143,6 @@ module _ (P : Pair) where
       abbrev Own₃ : Fml
       Own₃ = ShrSlice (named 2) κ₂ R₃ .own a₃ (v₃ ∷ [])
 
-      abbrev Own₆ : Fml
-      Own₆ = MutRef (named 3) κ₃ Words .own a₆ (v₆ ∷ [])
-
       abbrev Said : Answer → List D₂ → Type 0
       Said r ws = Converts P (a₁ .now) (a₂ .now) (a₃ .now) rounding range r ws
 

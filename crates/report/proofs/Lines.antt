@@ -4,7 +4,7 @@ use mathlib.Core.Path.{_≡_, refl, sym, ap, subst, _∙_}
 use mathlib.Core.Bool.{Bool, cond}
 use mathlib.Core.List.{List, [], _++_, append-assoc, append-nil}
 use Prim.Native.Nat.{ℕ, zero, suc, _+_, _*_, _≤_, _<_}
-use native.Mathlib.Nat.{add-zero, le-refl, le-trans, le-of-eq, mul-le-mul-right}
+use native.Mathlib.Nat.{add-zero, le-refl, le-trans, le-of-eq, mul-le-mul-right, suc-mul, zero-add}
 use native.Mathlib.Numerals.{add-one}
 use native.Mathlib.Omega.{arith}
 use lib.ListN.{length, take, drop, length-append}
@@ -95,10 +95,7 @@ module _ (d : List ℕ) (a : ℕ) (bytes : List ℕ) (w k : ℕ) (ask : LinesIn 
 
     module _ (more : i < k) where
       fit : (l m : ℕ) → k * l ≤ m → i * l + l ≤ m
-      fit l m h = le-trans (le-of-eq (next i l)) (le-trans (mul-le-mul-right l more) h)
-        where
-          next : (i l : ℕ) → i * l + l ≡ suc i * l
-          next i l = omega arith
+      fit l m h = le-trans (le-of-eq (sym (suc-mul i l))) (le-trans (mul-le-mul-right l more) h)
 
       pub from-within : from + w ≤ length bytes
       from-within = subst (λ (z : ℕ). z + w ≤ length bytes) (sym (at .place)) (fit w (length bytes) (ask .whole))
@@ -117,13 +114,10 @@ module _ (d : List ℕ) (a : ℕ) (bytes : List ℕ) (w k : ℕ) (ask : LinesIn 
         order = omega arith;
         place = ap (λ (z : ℕ). z + w) (at .place) ∙ next i w;
         wrote = subst (λ (z : List ℕ). Wrote d a z r d″)
-            (ap (λ (z : ℕ). lines w bytes 0 i ++ line w (fromLe (take w (drop z bytes)))) (at .place ∙ ap (λ (z : ℕ). z * w) (zero-plus i)) ∙ lines-more w bytes 0 i ∙ ap (lines w bytes 0) (sym (add-one i)))
+            (ap (λ (z : ℕ). lines w bytes 0 i ++ line w (fromLe (take w (drop z bytes)))) (at .place ∙ ap (λ (z : ℕ). z * w) (sym (zero-add i))) ∙ lines-more w bytes 0 i ∙ ap (lines w bytes 0) (sym (add-one i)))
             (wrote-then (at .wrote) v);
         same = wrote-length v ∙ at .same;
       }
         where
           next : (i l : ℕ) → i * l + l ≡ (i + 1) * l
           next i l = omega arith
-
-          zero-plus : (i : ℕ) → i ≡ 0 + i
-          zero-plus i = omega arith

@@ -2,7 +2,7 @@
 -- Assumes nothing.
 use mathlib.Core.Path.{_≡_, refl, sym, ap, ap₂, subst, _∙_}
 use Prim.Native.Nat.{suc, max, ℕ, _+_, _-_, _*_, _/_, _%_, _^_, _≤_, _<_}
-use native.Mathlib.Nat.{div-add-mod', mod-lt, mod-eq-of-lt, mul-assoc, add-zero, zero-add, le-antisymm, le-of-eq, le-trans, lt-of-lt-of-le, div-lt-iff-lt-mul}
+use native.Mathlib.Nat.{div-add-mod', mod-lt, mod-eq-of-lt, add-zero, zero-add, le-antisymm, le-of-eq, le-trans, lt-of-lt-of-le, div-lt-iff-lt-mul, add-comm}
 use native.Mathlib.Omega.{arith}
 use lib.Bits.{and-mask, mask-lt, bitAnd}
 use lib.Dec.{lit<}
@@ -13,9 +13,9 @@ use lib.Pow.{pow-pos, pow-add, pow-mono}
 use Rattle.patterns.proofs.PickBits.{float-law}
 use Rattle.grid.specs.declared.RoundingMode.{RoundingMode}
 use Rattle.patterns.specs.Float.{bitsMag, fieldMag}
-use Rattle.grid.proofs.Neighbours.{cut, pow-twice-pred}
+use Rattle.grid.proofs.Neighbours.{cut}
 use Rattle.grid.specs.Grid.{float, whole}
-use Rattle.rounding.proofs.Carried.{joined}
+use Rattle.rounding.proofs.Carried.{fields-even, carried}
 use Rattle.grid.specs.Round.{pickMag, step}
 use Rattle.grid.proofs.Step.{step-le}
 use Rattle.patterns.proofs.Encode.{encode, normal-bits, power-bits, bits-mono}
@@ -48,51 +48,25 @@ module _ (r : RoundingMode) (drop base x y : ℕ) (some : 0 < drop) (few : drop 
   m : ℕ
   m = 2 ^ 52 + x % 2 ^ 52
 
-  front : ℕ
-  front = (y - base) * 2 ^ (52 - drop)
-
-  split : 2 ^ 52 ≡ 2 ^ (52 - drop) * 2 ^ drop
-  split = ap (λ (z : ℕ). 2 ^ z) (back 52 drop (omega arith)) ∙ pow-add 2 (52 - drop) drop
-    where
-      back : (k e : ℕ) → e ≤ k → k ≡ k - e + e
-      back k e l = omega arith
-
-  front-units : front * 2 ^ drop ≡ (y - base) * 2 ^ 52
-  unfolding front
-  front-units = mul-assoc (y - base) (2 ^ (52 - drop)) (2 ^ drop) ∙ ap (λ (z : ℕ). (y - base) * z) (sym split)
-
-  front-even : front % 2 ≡ 0
-  unfolding front
-  front-even = ap (λ (z : ℕ). (y - base) * z % 2) (pow-twice-pred (52 - drop) (omega arith)) ∙ doubled (y - base) (2 ^ (52 - drop - 1))
-    where
-      doubled : (a b : ℕ) → a * (2 * b) % 2 ≡ 0
-      doubled a b = omega arith
-
-  joined-x : front * 2 ^ drop + m ≡ x - base * 2 ^ 52
-  unfolding m
-  joined-x = ap (λ (z : ℕ). z + m) front-units ∙ omega (arith, div-add-mod' x (2 ^ 52), is, ap (λ (z : ℕ). z * 2 ^ 52) is)
-
   size-m : size m ≡ 53
   unfolding m
   size-m = le-antisymm (size-le m 53 (omega (arith, mod-lt x {m = 2 ^ 52} (lit< tt))))
       (cut (size m) 53 (λ (l : size m < 53). let k : 2 ^ size m ≤ 2 ^ 52 = pow-mono {j = 52} (omega arith) in absurd (omega (arith, size-lt m))) (λ l. l))
 
   pub normal-narrowed : bitsMag (53 - drop) (base + drop) (step r ((x - base * 2 ^ 52) / 2 ^ drop) ((x - base * 2 ^ 52) % 2 ^ drop) (2 ^ drop)) ≡ pickMag (float (53 - drop) (base + drop)) r (bitsMag 53 0 x)
-  unfolding m front
+  unfolding m
   normal-narrowed =
       let p = 53 - drop in
       let s = base + drop in
       let K = max s (size m + y - p) in
       let k : K ≡ y + drop = omega (arith, size-m) in
-      ap (bitsMag p s) (subst (λ (z : ℕ). step r (z / 2 ^ drop) (z % 2 ^ drop) (2 ^ drop) ≡ step r (m / 2 ^ drop) (m % 2 ^ drop) (2 ^ drop) + front) joined-x (joined m front (2 ^ drop) (pow-pos drop) r front-even))
-      ∙ ap (bitsMag p s) (swap (step r (m / 2 ^ drop) (m % 2 ^ drop) (2 ^ drop)) front)
+      ap (bitsMag p s)
+      (carried 52 drop (y - base) (omega arith) r (x - base * 2 ^ 52) m (omega (arith, div-add-mod' x (2 ^ 52), is, ap (λ (z : ℕ). z * 2 ^ 52) is)) (fields-even (y - base) (52 - drop) (omega arith))
+      ∙ add-comm (step r (m / 2 ^ drop) (m % 2 ^ drop) (2 ^ drop)) ((y - base) * 2 ^ (52 - drop)))
       ∙ ap₂ (λ (a b : ℕ). bitsMag p s (a * 2 ^ b + step r (m / 2 ^ drop) (m % 2 ^ drop) (2 ^ drop))) (omega (arith, k)) (omega arith)
       ∙ ap (λ (j : ℕ). bitsMag p s ((K - s) * 2 ^ (p - 1) + step r (m / 2 ^ j) (m % 2 ^ j) (2 ^ j))) (omega (arith, k))
       ∙ float-law p s m y (omega arith) (omega arith) (omega (arith, k)) r
       ∙ ap (pickMag (float p s) r) (ap (λ (z : ℕ). m * 2 ^ z) (sym (add-zero y)) ∙ sym (normal-bits 53 0 x y is))
-    where
-      swap : (a b : ℕ) → a + b ≡ b + a
-      swap a b = omega arith
 
 -- ---- what a program has in hand at each of the three
 module _ (r : RoundingMode) (x drop base : ℕ) (ask : NarrowIn x drop base) where

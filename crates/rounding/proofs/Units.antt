@@ -3,7 +3,7 @@
 use mathlib.Core.Path.{_≡_, sym, ap, ap₂, _∙_, refl}
 use mathlib.Core.Bool.{Bool, false, true}
 use Prim.Native.Nat.{suc, min, ℕ, _+_, _-_, _*_, _/_, _%_, _^_, _≤_, _<_}
-use native.Mathlib.Nat.{div-eq-of-lt, mod-eq-of-lt, mul-div-cancel}
+use native.Mathlib.Nat.{div-eq-of-lt, mod-eq-of-lt, mul-div-cancel, add-comm}
 use native.Mathlib.Omega.{arith}
 use lib.Pow.{pow-pos, pow-mono}
 use Rattle.grid.specs.declared.RoundingMode.{RoundingMode}
@@ -83,14 +83,11 @@ module _ (r : RoundingMode) (x t unit : ℕ) (ask : UnitIn x t unit) where
         ∙ capped r m (unit - x) (omega (arith, ask .small))
         ∙ ap (λ (i : ℕ). step r (m / 2 ^ i) (m % 2 ^ i) (2 ^ i)) (left unit x some (ask .below))
         ∙ sym (over-unit r K (m * 2 ^ (y + 0)) _ (pick-shift (whole K) r m (y + 0) (omega arith) (omega (arith, ask .below))))
-        ∙ ap (λ (i : ℕ). unitsOf K r (i * 2 ^ (y + 0))) (swap t (2 ^ 52))
+        ∙ ap (λ (i : ℕ). unitsOf K r (i * 2 ^ (y + 0))) (add-comm t (2 ^ 52))
         ∙ ap (λ (f : ℕ). unitsOf K r (fieldMag 53 0 f t)) (back x some)
       where
         left : (unit x : ℕ) → (x ≡ 0 → ⊥) → x < unit → unit - x ≡ unit - 1 - (x - 1 + 0)
         left unit x s u = omega arith
-
-        swap : (a b : ℕ) → a + b ≡ b + a
-        swap a b = omega arith
 
         back : (x : ℕ) → (x ≡ 0 → ⊥) → suc (x - 1) ≡ x
         back x s = omega arith

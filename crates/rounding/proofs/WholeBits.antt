@@ -4,7 +4,7 @@ use mathlib.Core.Path.{_≡_, sym, ap, subst, _∙_, refl, ap₂}
 use mathlib.Core.Logic.{⊎-elim}
 use mathlib.Core.Bool.{Bool, true, false, cond}
 use Prim.Native.Nat.{suc, ℕ, _+_, _-_, _*_, _/_, _%_, _^_, _≤_, _<_, zero}
-use native.Mathlib.Nat.{le-trans, le-of-eq, div-add-mod', mod-lt, mul-assoc, mul-le-mul-right, le-div-iff-mul-le, div-lt-iff-lt-mul, div-eq-of-lt, eq-or-lt-of-le, mod-eq-of-lt, one-mul, zero-mul, lt-of-le-of-lt}
+use native.Mathlib.Nat.{le-trans, le-of-eq, div-add-mod', mod-lt, mul-assoc, mul-le-mul-right, le-div-iff-mul-le, div-lt-iff-lt-mul, div-eq-of-lt, eq-or-lt-of-le, mod-eq-of-lt, one-mul, zero-mul, lt-of-le-of-lt, sub-eq-zero-of-le}
 use native.Mathlib.Omega.{arith}
 use lib.Dec.{ltb, eqb, lit<}
 use lib.ListN.{drop}
@@ -14,11 +14,11 @@ use Rattle.grid.proofs.Kept.{pick-shift, pick-exact}
 use Rattle.patterns.proofs.Encode.{encode, bits-mono, zero-bits, normal-bits, power-bits}
 use Rattle.grid.specs.declared.RoundingMode.{RoundingMode}
 use Rattle.patterns.specs.Float.{bitsMag}
-use Rattle.grid.proofs.Neighbours.{cut, pow-twice-pred}
+use Rattle.grid.proofs.Neighbours.{cut, pow-split, as-units, pow-twice-pred}
 use Rattle.grid.specs.Round.{pickMag, step}
 use Rattle.grid.proofs.Step.{step-ge, step-le, step-alike}
 use Rattle.grid.specs.Grid.{whole}
-use Rattle.rounding.proofs.Carried.{joined}
+use Rattle.rounding.proofs.Carried.{fields-even, carried}
 use Rattle.rounding.specs.Rounding.{quartersOf, Dropped, WholeIn}
 
 -- ---- a field so large that the spacing is 1 or more: whole already
@@ -39,58 +39,39 @@ module _ (r : RoundingMode) (K p s one x y j : ℕ) (two : 2 ≤ p) (odd : one %
   front : ℕ
   front = y * 2 ^ (p - 1 - j)
 
-  split : 2 ^ (p - 1) ≡ 2 ^ (p - 1 - j) * 2 ^ j
-  split = ap (λ (z : ℕ). 2 ^ z) (back (p - 1) j (omega arith)) ∙ pow-add 2 (p - 1 - j) j
-    where
-      back : (k e : ℕ) → e ≤ k → k ≡ k - e + e
-      back k e l = omega arith
-
-  front-units : front * 2 ^ j ≡ y * 2 ^ (p - 1)
-  unfolding front
-  front-units = mul-assoc y (2 ^ (p - 1 - j)) (2 ^ j) ∙ ap (λ (z : ℕ). y * z) (sym split)
+  few : j ≤ p - 1
+  few = omega arith
 
   front-even : front % 2 ≡ 0
   unfolding front
   front-even = cut j (p - 1)
-      (λ (l : j < p - 1). ap (λ (z : ℕ). y * z % 2) (pow-twice-pred (p - 1 - j) (omega arith)) ∙ doubled y (2 ^ (p - 1 - j - 1)))
-      (λ (l : p - 1 ≤ j). ap (λ (z : ℕ). y * 2 ^ z % 2) (none (p - 1) j l) ∙ omega arith)
-    where
-      doubled : (a b : ℕ) → a * (2 * b) % 2 ≡ 0
-      doubled a b = omega arith
+      (λ (l : j < p - 1). fields-even y (p - 1 - j) (omega arith))
+      (λ (l : p - 1 ≤ j). ap (λ (z : ℕ). y * 2 ^ z % 2) (sub-eq-zero-of-le l) ∙ omega arith)
 
-      none : (a b : ℕ) → a ≤ b → a - b ≡ 0
-      none a b l = omega arith
-
-  joined-x : front * 2 ^ j + m ≡ x
-  unfolding m
-  joined-x = ap (λ (z : ℕ). z + m) front-units ∙ regroup y (2 ^ (p - 1)) (x % 2 ^ (p - 1)) ∙ ap (λ (z : ℕ). z * 2 ^ (p - 1) + x % 2 ^ (p - 1)) (sym is) ∙ div-add-mod' x (2 ^ (p - 1))
+  stepped-x : step r (x / 2 ^ j) (x % 2 ^ j) (2 ^ j) ≡ kept + front
+  unfolding kept front m
+  stepped-x = carried (p - 1) j y few r x m (regroup y (2 ^ (p - 1)) (x % 2 ^ (p - 1)) ∙ ap (λ (z : ℕ). z * 2 ^ (p - 1) + x % 2 ^ (p - 1)) (sym is) ∙ div-add-mod' x (2 ^ (p - 1))) front-even
     where
       regroup : (y h t : ℕ) → y * h + (h + t) ≡ suc y * h + t
       regroup y h t = omega arith
 
-  stepped-x : step r (x / 2 ^ j) (x % 2 ^ j) (2 ^ j) ≡ kept + front
-  unfolding kept
-  stepped-x = subst (λ (z : ℕ). step r (z / 2 ^ j) (z % 2 ^ j) (2 ^ j) ≡ step r (m / 2 ^ j) (m % 2 ^ j) (2 ^ j) + front) joined-x (joined m front (2 ^ j) (pow-pos j) r front-even)
-
   kept-low : 2 ^ (p - 1) ≤ kept * 2 ^ j
   unfolding kept m
-  kept-low = le-trans (le-of-eq split) (mul-le-mul-right (2 ^ j) (le-trans (le-div-iff-mul-le (pow-pos j) .1 (omega (arith, split))) (step-ge r (m / 2 ^ j) (m % 2 ^ j) (2 ^ j))))
+  kept-low = le-trans (le-of-eq (pow-split (p - 1) j few)) (mul-le-mul-right (2 ^ j) (le-trans (le-div-iff-mul-le (pow-pos j) .1 (omega (arith, pow-split (p - 1) j few))) (step-ge r (m / 2 ^ j) (m % 2 ^ j) (2 ^ j))))
 
   kept-high : kept * 2 ^ j ≤ 2 ^ p
   unfolding kept m
   kept-high = le-trans (mul-le-mul-right (2 ^ j) (le-trans (step-le r (m / 2 ^ j) (m % 2 ^ j) (2 ^ j)) (div-lt-iff-lt-mul (pow-pos j) .1 below))) (le-of-eq (sym whole-split))
     where
       whole-split : 2 ^ p ≡ 2 ^ (p - j) * 2 ^ j
-      whole-split = ap (λ (z : ℕ). 2 ^ z) (back p j (omega arith)) ∙ pow-add 2 (p - j) j
-        where
-          back : (k e : ℕ) → e ≤ k → k ≡ k - e + e
-          back k e l = omega arith
+      whole-split = pow-split p j (omega (arith, few))
 
       below : 2 ^ (p - 1) + x % 2 ^ (p - 1) < 2 ^ (p - j) * 2 ^ j
       below = subst (λ (z : ℕ). 2 ^ (p - 1) + x % 2 ^ (p - 1) < z) whole-split (omega (arith, mod-lt x (pow-pos (p - 1)), pow-twice-pred p (omega arith)))
 
   sum-is : (kept + front) * 2 ^ j ≡ y * 2 ^ (p - 1) + kept * 2 ^ j
-  sum-is = regroup kept front (2 ^ j) ∙ ap (λ (z : ℕ). z + kept * 2 ^ j) front-units
+  unfolding front
+  sum-is = regroup kept front (2 ^ j) ∙ ap (λ (z : ℕ). z + kept * 2 ^ j) (sym (as-units y (p - 1) j few))
     where
       regroup : (a b u : ℕ) → (a + b) * u ≡ b * u + a * u
       regroup a b u = omega arith

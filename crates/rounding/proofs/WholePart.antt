@@ -3,7 +3,7 @@
 use mathlib.Core.Path.{_≡_, sym, ap, ap₂, _∙_, refl}
 use mathlib.Core.Bool.{Bool, false, true}
 use Prim.Native.Nat.{suc, ℕ, _+_, _-_, _*_, _/_, _%_, _^_, _≤_, _<_}
-use native.Mathlib.Nat.{lt-of-lt-of-le, mod-eq-of-lt, mul-div-cancel, mul-assoc, add-zero, le-of-eq, le-trans, mul-le-mul-right, mul-mod-left}
+use native.Mathlib.Nat.{lt-of-lt-of-le, mod-eq-of-lt, mul-div-cancel, mul-assoc, add-zero, le-of-eq, le-trans, mul-le-mul-right, mul-mod-left, add-comm}
 use native.Mathlib.Omega.{arith}
 use lib.Bits.{bitAnd, and-mask, mask-lt}
 use lib.Dec.{leb, ltb}
@@ -42,10 +42,7 @@ module _ (mode : RoundingMode) (b : ℕ) where
   mag-is y e =
       normal-bits 53 0 (b % 2 ^ 63) y (field-is b ∙ e)
       ∙ ap₂ (λ (t z : ℕ). (2 ^ 52 + t) * 2 ^ z) (fraction-is b) (add-zero y)
-      ∙ ap (λ (z : ℕ). z * 2 ^ y) (swap (2 ^ 52) (bitAnd b (2 ^ 52 - 1)))
-    where
-      swap : (i j : ℕ) → i + j ≡ j + i
-      swap i j = omega arith
+      ∙ ap (λ (z : ℕ). z * 2 ^ y) (add-comm (2 ^ 52) (bitAnd b (2 ^ 52 - 1)))
 
   -- from 2^52 on: the significand is moved up
   pub shifted-up : (K : ℕ) → K ≡ 52 + 1022 → 1075 ≤ f → bitsMag 53 0 (b % 2 ^ 63) / 2 ^ K ≡ m * 2 ^ (f - 1075)

@@ -4,7 +4,7 @@ use mathlib.Core.Path.{_≡_, refl, sym, ap, ap₂, subst, _∙_}
 use mathlib.Core.Bool.{Bool, true, false, cond}
 use mathlib.Core.List.{List, _∷_, _++_}
 use Prim.Native.Nat.{ℕ, zero, suc, _+_, _-_, _/_, _%_, _^_, _≤_, _<_}
-use native.Mathlib.Nat.{div-one, div-div-eq-div-mul, pow-suc, pow-zero, pow-le-pow-right, zero-lt-suc, lt-of-lt-of-le}
+use native.Mathlib.Nat.{div-one, div-div-eq-div-mul, pow-suc, pow-zero, pow-le-pow-right, zero-lt-suc, lt-of-lt-of-le, sub-add-cancel, suc-add, zero-add}
 use native.Mathlib.Omega.{arith}
 use lib.Dec.{leb}
 use lib.ListN.{length, getD, set, take, drop, take-append-drop}
@@ -64,23 +64,14 @@ module _ (d : List ℕ) (a b k v : ℕ) (room : a + k ≤ length d) where
 
 -- ---- how many decimal digits: those of a number below 10^(n + 1) need no power past 10^n
 few-places : (n m v : ℕ) → v < 10 ^ suc n → placesUpTo (m + n) v ≡ placesUpTo n v
-few-places n zero v h = ap (λ (z : ℕ). placesUpTo z v) (zero-plus n)
-  where
-    zero-plus : (n : ℕ) → 0 + n ≡ n
-    zero-plus n = omega arith
+few-places n zero v h = ap (λ (z : ℕ). placesUpTo z v) (zero-add n)
 few-places n (suc m) v h =
-    ap (λ (z : ℕ). placesUpTo z v) (suc-plus m n)
+    ap (λ (z : ℕ). placesUpTo z v) (suc-add m n)
     ∙ ap (λ (z : Bool). cond z (suc (suc (m + n))) (placesUpTo (m + n) v)) (lt-leb (10 ^ suc (m + n)) v (lt-of-lt-of-le h (pow-le-pow-right (zero-lt-suc 9) {i = suc n} {j = suc (m + n)} (omega arith))))
     ∙ few-places n m v h
-  where
-    suc-plus : (m n : ℕ) → suc m + n ≡ suc (m + n)
-    suc-plus m n = omega arith
 
 up-to : (n v : ℕ) → n ≤ v → v < 10 ^ suc n → placesUpTo n v ≡ places v
-up-to n v l h = sym (ap (λ (z : ℕ). placesUpTo z v) (split n v l) ∙ few-places n (v - n) v h)
-  where
-    split : (n v : ℕ) → n ≤ v → v ≡ v - n + n
-    split n v l = omega arith
+up-to n v l h = sym (ap (λ (z : ℕ). placesUpTo z v) (sym (sub-add-cancel l)) ∙ few-places n (v - n) v h)
 
 pub one-place : (v : ℕ) → v < 10 → 1 ≡ places v
 one-place v h = up-to 0 v (omega arith) h

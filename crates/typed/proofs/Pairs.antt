@@ -16,7 +16,8 @@ use Rattle.kinds.specs.declared.Outcome.the-variants.{Stored}
 use Rattle.cast_spec.specs.Element.{outcomeOf}
 use Rattle.typed_values.proofs.Signed.{again}
 use Rattle.typed_values.specs.Bits.{f64Bits, f32Bits, i64Bits, u8Bits, i32Bits, u8Of, i32Of, f32Of}
-use Rattle.typed_values.proofs.Nans.{Back, quiet, quiet-kept, no-integer-nan, bits-are-back}
+use Rattle.patterns.proofs.Integers.{no-integer-nan}
+use Rattle.typed_values.proofs.Nans.{Back, quiet, quiet-kept, bits-are-back}
 use Rattle.typed_values.proofs.Fits.{f64-fits, f32-fits, i64-fits, i32-fits, u8-fits}
 use Rattle.typed_entries.specs.Entries.{f64U8, f64I32, f32U8, f64F32, i64F32}
 use Rattle.typed_entries.specs.declared.EntryI64F32.{EntryI64F32}

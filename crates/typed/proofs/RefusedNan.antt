@@ -28,7 +28,8 @@ use Rattle.kinds.specs.declared.Answer.the-variants as A
 use Rattle.cast_spec.specs.Element.{Entry, Settings, matches, mapped, inRange, beyond, converted, outcomeOf}
 use Rattle.cast_spec.specs.Chunk.{Inputs, sw, dw, codesListed, mapWhole, bytesWhole, countsMeet, callOf, outcomeAt, answerNext, answerFrom, answerOf}
 use Rattle.typed_values.specs.Bits.{floatBits, i64Bits}
-use Rattle.typed_values.proofs.Nans.{quiet, no-integer-nan}
+use Rattle.patterns.proofs.Integers.{no-integer-nan}
+use Rattle.typed_values.proofs.Nans.{quiet}
 use Rattle.typed.specs.Typed.{typedInputs, TypedContract, refusedNan}
 use Rattle.typed.proofs.Places.{some-element}
 use Rattle.typed.proofs.Turns.{Elements, settings, outcome-at, count-is}

@@ -6,7 +6,7 @@ use mathlib.Core.List.{List, [], _∷_, map}
 use Prim.Native.Nat.{ℕ, _%_, _^_}
 use native.Mathlib.Omega.{arith}
 use native.Mathlib.Nat.{mod-eq-of-lt}
-use lib.Ieee.Bits.{ofBits-fits}
+use lib.Ieee.Bits.{ofBits-fits, is-true}
 use lib.IntN.{ℤ, pos, natAbs}
 use lib.Signed.{_≤ℤ_, leZ, leZ-yes}
 use lib.Ieee.{binary32, fits, ofBits, toBits}
@@ -32,12 +32,8 @@ use Rattle.typed_values.proofs.Nans.{Back, not-nan}
 pub read-back : (b : ℕ) → Back b → toLe 4 (f32Bits (f32Of b)) ≡ toLe 4 b
 read-back b k =
     let x = ofBits binary32 (b % 2 ^ 32) in
-    ap (λ (t : Bool). toLe 4 (cond t (toBits binary32 x) 0)) (held (fits binary32 x) (ofBits-fits binary32 (b % 2 ^ 32)))
+    ap (λ (t : Bool). toLe 4 (cond t (toBits binary32 x) 0)) (is-true (fits binary32 x) (ofBits-fits binary32 (b % 2 ^ 32)))
     ∙ ap (λ (z : ℕ). toLe 4 (toBits binary32 (ofBits binary32 z))) (mod-eq-of-lt (k .1)) ∙ ap (toLe 4) (k .0)
-  where
-    held : (t : Bool) → T t → t ≡ true
-    held true h = refl
-    held false h = absurd h
 
 abbrev Good : Outcome → Type 0
 Good (Stored b) = Back b

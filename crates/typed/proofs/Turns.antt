@@ -5,7 +5,7 @@ use mathlib.Core.Bool.{Bool, true, false, cond, _&&_, true≢false}
 use mathlib.Core.Path.{_≡_, refl, sym, ap, ap₂, subst, _∙_}
 use Prim.Native.Nat.{ℕ, suc, _+_, _-_, _*_, _/_, _%_, _^_, _≤_, _<_}
 use native.Mathlib.Omega.{arith}
-use native.Mathlib.Nat.{mul-div-cancel, mul-mod-left, le-of-eq, le-trans, mul-le-mul-right, sub-zero, zero-mul}
+use native.Mathlib.Nat.{mul-div-cancel, mul-mod-left, le-of-eq, le-trans, mul-le-mul-right, sub-zero, zero-mul, suc-mul}
 use native.Mathlib.Numerals.{add-one}
 use lib.ListN.{length, getD, take, drop, set, length-set, length-map}
 use lib.Dec.{T, ltb, eqb}
@@ -251,14 +251,11 @@ module _ {X Y Z : Type 0} (P : Elements X Y Z) (xs : List X) (ys : List Z) (roun
           next : (x : Outcome) → x ≡ o i → x ≡ outcomeOf S (getD ps i 0) → Inv (nextState x ps i) (storedIn read x zs i)
           next (Stored b) f h =
               let l : i < length zs = asks .2 in
-              let room : i * w + w ≤ length (bytes zs) = le-trans (le-of-eq (shift i w)) (le-trans (mul-le-mul-right w l) (le-of-eq (sym (length-bytes w (map of zs) ∙ ap (λ (n : ℕ). n * w) (length-map zs of))))) in
+              let room : i * w + w ≤ length (bytes zs) = le-trans (le-of-eq (sym (suc-mul i w))) (le-trans (mul-le-mul-right w l) (le-of-eq (sym (length-bytes w (map of zs) ∙ ap (λ (n : ℕ). n * w) (length-map zs of))))) in
               at-position (i + 1) (set zs i (read b)) (omega (arith, now .below)) (now .meet) (length-set zs i (read b) ∙ inv .long)
               (rw add-one (kept o w (length ps) R W i (bytes zs) (now .run) (now .below) b (bytes (set zs i (read b))) (sym f) room
               (ap (bytesOf w) (map-set of zs i (read b)) ∙ set-bytes w (map of zs) i (of (read b)) (subst (λ (n : ℕ). i < n) (sym (length-map zs of)) l)
               ∙ ap (λ (t : List ℕ). take (i * w) (bytes zs) ++ (t ++ drop w (drop (i * w) (bytes zs)))) (keeps i b (now .below) (sym h)))))
-            where
-              shift : (i w : ℕ) → i * w + w ≡ suc i * w
-              shift i w = omega arith
           next (NanOrInf x) f h = stays (NanOrInf x) f tt
           next (OutOfRange x lo hi) f h = stays (OutOfRange x lo hi) f tt
           next (FloatOutOfRange x lo hi) f h = stays (FloatOutOfRange x lo hi) f tt

@@ -1,6 +1,6 @@
 -- A float's pattern that stands for a NaN is the quiet one; and a pattern that stands for no NaN, or is a float's own, is the one that the f32 read from it has.
 -- Assumes nothing.
-use mathlib.Core.Bool.{Bool, not}
+use mathlib.Core.Bool.{not}
 use mathlib.Core.Path.{_≡_, refl, sym, ap, _∙_}
 use Prim.Native.Nat.{ℕ, _^_, _<_}
 use native.Mathlib.Omega.{arith}
@@ -9,7 +9,7 @@ use lib.Ieee as F
 use lib.Ieee.{Float, Format, binary32, binary64, isNan, ofBits, toBits}
 use lib.Dec.{T, lit<}
 use Rattle.patterns.proofs.Ieee.{Agrees, kindFor, agree}
-use Rattle.patterns.specs.Kind.{integer, f32, f64}
+use Rattle.patterns.specs.Kind.{f32, f64}
 use Rattle.patterns.specs.Pattern.{nanPattern}
 use Rattle.patterns.specs.Value.{Value, nan, valueOf}
 use Rattle.typed_values.specs.Bits.{floatBits, f32Bits}
@@ -38,14 +38,10 @@ Back b = (toBits binary32 (ofBits binary32 b) ≡ b) × (b < 2 ^ 32)
 pub bits-are-back : (x : Float) → Back (f32Bits x)
 bits-are-back x = (bits-back binary32 x, bits-below binary32 x)
 
--- the quiet NaN of f64 is narrowed to that of f32; an integer is no NaN
+-- the quiet NaN of f64 is narrowed to that of f32
 pub quiet-kept : Back (nanPattern f64 24 8 (toBits binary64 F.nan))
 unfolding nanPattern toBits ofBits
 quiet-kept = (refl, lit< tt)
-
-pub no-integer-nan : (s : Bool) (n b : ℕ) → valueOf (integer s n) b ≡ nan → ⊥
-unfolding valueOf
-no-integer-nan s n b e = let z : _≡_ {A = ℕ} 0 1 = cc in omega arith
 
 pub not-nan : (b : ℕ) → b < 2 ^ 32 → (valueOf f32 b ≡ nan → ⊥) → Back b
 not-nan b h f = (toBits-ofBits binary32 b h (no-nan-agrees (ofBits binary32 b) (valueOf f32 b) (agree binary32 b) f), h)
