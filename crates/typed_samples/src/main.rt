@@ -1,5 +1,7 @@
 // Typed samples through each typed entry, and the same elements as bytes through the chunk call. Each line is the pair, the rounding and range codes, whether
 // both routes agree in the answer and in every byte, the answer's number, the position of a refusal, and the typed destination's bytes.
+ghost use Prim.Native.Nat.{_+_, _≤_};
+ghost use lib.ListN.{length};
 use kinds::Answer;
 use libc::STDOUT_FILENO;
 use typed_entries::Entry;
@@ -33,154 +35,77 @@ fn four_bytes(a: u8, b: u8, c: u8, d: u8) -> [u8; 4] {
     [a, b, c, d]
 }
 
-// A pattern's lowest four bytes, and all eight.
-fn word(v: u64) -> [u8; 4] {
-    let mut out = [0u8; 4];
-    bytes_le::put4(&mut out, v);
+// Puts a pattern's lowest four bytes at a place, and all eight.
+fn put_word(out: &mut [u8], at: usize, v: u64)
+    requires { ⌜ at + 4 ≤ length (now out) ⌝ }
+{
+    bytes_le::write_le(out, at, 4, v);
+}
+
+fn put_long(out: &mut [u8], at: usize, v: u64)
+    requires { ⌜ at + 8 ≤ length (now out) ⌝ }
+{
+    bytes_le::write_le(out, at, 8, v);
+}
+
+fn three_words(x: u64, y: u64, z: u64) -> [u8; 12] {
+    let mut out = [0u8; 12];
+    put_word(&mut out, 0, x);
+    put_word(&mut out, 4, y);
+    put_word(&mut out, 8, z);
     out
 }
 
-fn long(v: u64) -> [u8; 8] {
-    let mut out = [0u8; 8];
-    bytes_le::put8(&mut out, v);
+fn four_words(x: u64, y: u64, z: u64, w: u64) -> [u8; 16] {
+    let mut out = [0u8; 16];
+    put_word(&mut out, 0, x);
+    put_word(&mut out, 4, y);
+    put_word(&mut out, 8, z);
+    put_word(&mut out, 12, w);
     out
 }
 
-fn f64_bytes(x: f64) -> [u8; 8] {
-    long(typed_values::bits_f64(x))
+fn three_longs(x: u64, y: u64, z: u64) -> [u8; 24] {
+    let mut out = [0u8; 24];
+    put_long(&mut out, 0, x);
+    put_long(&mut out, 8, y);
+    put_long(&mut out, 16, z);
+    out
 }
 
-fn i64_bytes(x: i64) -> [u8; 8] {
-    long(typed_values::bits_i64(x))
-}
-
-fn f32_bytes(x: f32) -> [u8; 4] {
-    word(typed_values::bits_f32(x))
-}
-
-fn i32_bytes(x: i32) -> [u8; 4] {
-    word(typed_values::bits_i32(x))
-}
-
-fn three_words(x: [u8; 4], y: [u8; 4], z: [u8; 4]) -> [u8; 12] {
-    [
-        x[0],
-        x[1],
-        x[2],
-        x[3],
-        y[0],
-        y[1],
-        y[2],
-        y[3],
-        z[0],
-        z[1],
-        z[2],
-        z[3],
-    ]
-}
-
-fn four_words(x: [u8; 4], y: [u8; 4], z: [u8; 4], w: [u8; 4]) -> [u8; 16] {
-    [
-        x[0],
-        x[1],
-        x[2],
-        x[3],
-        y[0],
-        y[1],
-        y[2],
-        y[3],
-        z[0],
-        z[1],
-        z[2],
-        z[3],
-        w[0],
-        w[1],
-        w[2],
-        w[3],
-    ]
-}
-
-fn three_longs(x: [u8; 8], y: [u8; 8], z: [u8; 8]) -> [u8; 24] {
-    [
-        x[0],
-        x[1],
-        x[2],
-        x[3],
-        x[4],
-        x[5],
-        x[6],
-        x[7],
-        y[0],
-        y[1],
-        y[2],
-        y[3],
-        y[4],
-        y[5],
-        y[6],
-        y[7],
-        z[0],
-        z[1],
-        z[2],
-        z[3],
-        z[4],
-        z[5],
-        z[6],
-        z[7],
-    ]
-}
-
-fn four_longs(x: [u8; 8], y: [u8; 8], z: [u8; 8], w: [u8; 8]) -> [u8; 32] {
-    [
-        x[0],
-        x[1],
-        x[2],
-        x[3],
-        x[4],
-        x[5],
-        x[6],
-        x[7],
-        y[0],
-        y[1],
-        y[2],
-        y[3],
-        y[4],
-        y[5],
-        y[6],
-        y[7],
-        z[0],
-        z[1],
-        z[2],
-        z[3],
-        z[4],
-        z[5],
-        z[6],
-        z[7],
-        w[0],
-        w[1],
-        w[2],
-        w[3],
-        w[4],
-        w[5],
-        w[6],
-        w[7],
-    ]
+fn four_longs(x: u64, y: u64, z: u64, w: u64) -> [u8; 32] {
+    let mut out = [0u8; 32];
+    put_long(&mut out, 0, x);
+    put_long(&mut out, 8, y);
+    put_long(&mut out, 16, z);
+    put_long(&mut out, 24, w);
+    out
 }
 
 fn four_f64(s: [f64; 4]) -> [u8; 32] {
     four_longs(
-        f64_bytes(s[0]),
-        f64_bytes(s[1]),
-        f64_bytes(s[2]),
-        f64_bytes(s[3]),
+        typed_values::bits_f64(s[0]),
+        typed_values::bits_f64(s[1]),
+        typed_values::bits_f64(s[2]),
+        typed_values::bits_f64(s[3]),
     )
 }
 
 fn four_f32(s: [f32; 4]) -> [u8; 16] {
     four_words(
-        f32_bytes(s[0]),
-        f32_bytes(s[1]),
-        f32_bytes(s[2]),
-        f32_bytes(s[3]),
+        typed_values::bits_f32(s[0]),
+        typed_values::bits_f32(s[1]),
+        typed_values::bits_f32(s[2]),
+        typed_values::bits_f32(s[3]),
+    )
+}
+
+fn four_i64(s: [i64; 4]) -> [u8; 32] {
+    four_longs(
+        typed_values::bits_i64(s[0]),
+        typed_values::bits_i64(s[1]),
+        typed_values::bits_i64(s[2]),
+        typed_values::bits_i64(s[3]),
     )
 }
 
@@ -349,7 +274,11 @@ fn bytes_f64_u8(src: [f64; 4], rounding: u8, range: u8) -> Four {
     let e0 = m[0];
     let e1 = m[1];
     let e2 = m[2];
-    let keys = three_longs(f64_bytes(e0.key), f64_bytes(e1.key), f64_bytes(e2.key));
+    let keys = three_longs(
+        typed_values::bits_f64(e0.key),
+        typed_values::bits_f64(e1.key),
+        typed_values::bits_f64(e2.key),
+    );
     let targets = three_bytes(e0.target, e1.target, e2.target);
     let elements = four_f64(src);
     let z = 0xaau8;
@@ -387,10 +316,10 @@ fn typed_f64_i32(src: [f64; 4], rounding: u8, range: u8) -> Sixteen {
     Sixteen {
         answer: a,
         bytes: four_words(
-            i32_bytes(dst[0]),
-            i32_bytes(dst[1]),
-            i32_bytes(dst[2]),
-            i32_bytes(dst[3]),
+            typed_values::bits_i32(dst[0]),
+            typed_values::bits_i32(dst[1]),
+            typed_values::bits_i32(dst[2]),
+            typed_values::bits_i32(dst[3]),
         ),
     }
 }
@@ -400,14 +329,18 @@ fn bytes_f64_i32(src: [f64; 4], rounding: u8, range: u8) -> Sixteen {
     let e0 = m[0];
     let e1 = m[1];
     let e2 = m[2];
-    let keys = three_longs(f64_bytes(e0.key), f64_bytes(e1.key), f64_bytes(e2.key));
+    let keys = three_longs(
+        typed_values::bits_f64(e0.key),
+        typed_values::bits_f64(e1.key),
+        typed_values::bits_f64(e2.key),
+    );
     let targets = three_words(
-        i32_bytes(e0.target),
-        i32_bytes(e1.target),
-        i32_bytes(e2.target),
+        typed_values::bits_i32(e0.target),
+        typed_values::bits_i32(e1.target),
+        typed_values::bits_i32(e2.target),
     );
     let elements = four_f64(src);
-    let z = i32_bytes(-1i32);
+    let z = typed_values::bits_i32(-1i32);
     let before = four_words(z, z, z, z);
     long_to_word(elements, before, keys, targets, 9, 2, rounding, range)
 }
@@ -450,7 +383,11 @@ fn bytes_f32_u8(src: [f32; 4], rounding: u8, range: u8) -> Four {
     let e0 = m[0];
     let e1 = m[1];
     let e2 = m[2];
-    let keys = three_words(f32_bytes(e0.key), f32_bytes(e1.key), f32_bytes(e2.key));
+    let keys = three_words(
+        typed_values::bits_f32(e0.key),
+        typed_values::bits_f32(e1.key),
+        typed_values::bits_f32(e2.key),
+    );
     let targets = three_bytes(e0.target, e1.target, e2.target);
     let elements = four_f32(src);
     let z = 0xaau8;
@@ -496,14 +433,18 @@ fn bytes_f64_f32(src: [f64; 4], rounding: u8, range: u8) -> Sixteen {
     let e0 = m[0];
     let e1 = m[1];
     let e2 = m[2];
-    let keys = three_longs(f64_bytes(e0.key), f64_bytes(e1.key), f64_bytes(e2.key));
+    let keys = three_longs(
+        typed_values::bits_f64(e0.key),
+        typed_values::bits_f64(e1.key),
+        typed_values::bits_f64(e2.key),
+    );
     let targets = three_words(
-        f32_bytes(e0.target),
-        f32_bytes(e1.target),
-        f32_bytes(e2.target),
+        typed_values::bits_f32(e0.target),
+        typed_values::bits_f32(e1.target),
+        typed_values::bits_f32(e2.target),
     );
     let elements = four_f64(src);
-    let z = f32_bytes(-1.5f32);
+    let z = typed_values::bits_f32(-1.5f32);
     let before = four_words(z, z, z, z);
     long_to_word(elements, before, keys, targets, 9, 8, rounding, range)
 }
@@ -546,19 +487,18 @@ fn bytes_i64_f32(src: [i64; 4], rounding: u8, range: u8) -> Sixteen {
     let e0 = m[0];
     let e1 = m[1];
     let e2 = m[2];
-    let keys = three_longs(i64_bytes(e0.key), i64_bytes(e1.key), i64_bytes(e2.key));
+    let keys = three_longs(
+        typed_values::bits_i64(e0.key),
+        typed_values::bits_i64(e1.key),
+        typed_values::bits_i64(e2.key),
+    );
     let targets = three_words(
-        f32_bytes(e0.target),
-        f32_bytes(e1.target),
-        f32_bytes(e2.target),
+        typed_values::bits_f32(e0.target),
+        typed_values::bits_f32(e1.target),
+        typed_values::bits_f32(e2.target),
     );
-    let elements = four_longs(
-        i64_bytes(src[0]),
-        i64_bytes(src[1]),
-        i64_bytes(src[2]),
-        i64_bytes(src[3]),
-    );
-    let z = f32_bytes(-1.5f32);
+    let elements = four_i64(src);
+    let z = typed_values::bits_f32(-1.5f32);
     let before = four_words(z, z, z, z);
     long_to_word(elements, before, keys, targets, 3, 8, rounding, range)
 }
