@@ -59,7 +59,8 @@ extern "C" {
  * Each element: if it equals a key of the map, the target of the first such entry is stored as it is, unrounded and unchecked. A NaN key
  * equals every NaN, and +0 and -0 are equal. Otherwise the element is rounded once to the target kind by the rounding code, and then the
  * range code decides. A zero result keeps the sign of a float element; infinities pass from float to float.
- * NaN to a float kind: same kind, bits unchanged; f64 to f32 and f32 to f64 keep the sign and the top of the fraction, with its highest bit set.
+ * NaN to a float kind: same kind, bits unchanged; f64 to f32, sign kept, top 23 fraction bits kept, highest fraction bit
+ * set; f32 to f64, sign kept, fraction placed at the top, highest fraction bit set.
  *
  * `src`, `dst`, `keys` and `targets` each come with their length in BYTES. Keys are elements of the kind `from`, targets of the kind `to`;
  * entry i is key i and target i. With no map both lengths are 0.

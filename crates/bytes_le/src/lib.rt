@@ -10,6 +10,7 @@ fn wide(x: u8) -> u64
     x as u64
 }
 
+// The number of one byte.
 pub fn get1(s: &[u8]) -> u64
     requires { ⌜ length (now s) ≡ 1 ⌝ }
     ensures { λ r. ⌜ (r ≡ fromLe (now (s .entry))) × (r < 2 ^ 8) ⌝ }
@@ -17,6 +18,7 @@ pub fn get1(s: &[u8]) -> u64
     wide(s[0])
 }
 
+// The number of two bytes.
 pub fn get2(s: &[u8]) -> u64
     requires { ⌜ length (now s) ≡ 2 ⌝ }
     ensures { λ r. ⌜ (r ≡ fromLe (now (s .entry))) × (r < 2 ^ 16) ⌝ }
@@ -24,6 +26,7 @@ pub fn get2(s: &[u8]) -> u64
     get1(&s[0..1]) + get1(&s[1..2]) * 256
 }
 
+// The number of four bytes.
 pub fn get4(s: &[u8]) -> u64
     requires { ⌜ length (now s) ≡ 4 ⌝ }
     ensures { λ r. ⌜ (r ≡ fromLe (now (s .entry))) × (r < 2 ^ 32) ⌝ }
@@ -31,6 +34,7 @@ pub fn get4(s: &[u8]) -> u64
     get2(&s[0..2]) + get2(&s[2..4]) * 65536
 }
 
+// The number of eight bytes.
 pub fn get8(s: &[u8]) -> u64
     requires { ⌜ length (now s) ≡ 8 ⌝ }
     ensures { λ r. ⌜ (r ≡ fromLe (now (s .entry))) × (r < 2 ^ 64) ⌝ }
@@ -38,6 +42,7 @@ pub fn get8(s: &[u8]) -> u64
     get4(&s[0..4]) + get4(&s[4..8]) * 4294967296
 }
 
+// Puts a number's lowest byte.
 pub fn put1(d: &mut [u8], v: u64)
     requires { ⌜ length (now d) ≡ 1 ⌝ }
     ensures { λ _. ⌜ now (d .exit) ≡ toLe 1 v ⌝ }
@@ -45,6 +50,7 @@ pub fn put1(d: &mut [u8], v: u64)
     d[0] = (v % 256) as u8;
 }
 
+// Puts a number's lowest two bytes.
 pub fn put2(d: &mut [u8], v: u64)
     requires { ⌜ length (now d) ≡ 2 ⌝ }
     ensures { λ _. ⌜ now (d .exit) ≡ toLe 2 v ⌝ }
@@ -53,6 +59,7 @@ pub fn put2(d: &mut [u8], v: u64)
     put1(&mut d[1..2], v / 256);
 }
 
+// Puts a number's lowest four bytes.
 pub fn put4(d: &mut [u8], v: u64)
     requires { ⌜ length (now d) ≡ 4 ⌝ }
     ensures { λ _. ⌜ now (d .exit) ≡ toLe 4 v ⌝ }
@@ -61,6 +68,7 @@ pub fn put4(d: &mut [u8], v: u64)
     put2(&mut d[2..4], v / 65536);
 }
 
+// Puts a number's lowest eight bytes.
 pub fn put8(d: &mut [u8], v: u64)
     requires { ⌜ length (now d) ≡ 8 ⌝ }
     ensures { λ _. ⌜ now (d .exit) ≡ toLe 8 v ⌝ }

@@ -15,7 +15,7 @@ use Rattle.kinds.specs.declared.Answer.{Answer}
 use Rattle.kinds.specs.declared.Answer.the-variants.{BrokenElement, BrokenMap, LengthMismatch, UnknownCode}
 use Rattle.kinds.specs.declared.Outcome.the-variants.{FloatOutOfRange, NanOrInf, OutOfRange, Stored}
 use Rattle.kinds.specs.declared.Outcome.{Outcome}
-use Rattle.cast_spec.specs.Chunk.{dw, answerFrom, answerNext, bytesFrom, bytesNext, Inputs, answerOf, bytesWhole, callOf, codesListed, countsMeet, destinationOf, mapWhole, outcomeAt}
+use Rattle.cast_spec.specs.Chunk.{Refuses, dw, answerFrom, answerNext, bytesFrom, bytesNext, Inputs, answerOf, bytesWhole, callOf, codesListed, countsMeet, destinationOf, mapWhole, outcomeAt}
 use Rattle.cast_spec.proofs.Places.{later}
 use Rattle.bytes_le.proofs.Sums.{length-toLe}
 use Rattle.kinds.specs.Answer.{numberOf, positionOf}
@@ -37,16 +37,22 @@ numbers (A.FloatOutOfRange i v lo hi) = lit≤ tt
 
 -- ---- n outcomes from the position a on
 module _ (o : ℕ → Outcome) (w : ℕ) where
-  -- a refusal that is told lies among them
-  within : (a n : ℕ) → 5 ≤ numberOf (answerFrom o a n) → positionOf (answerFrom o a n) < a + n
-  within a zero h = absurd (omega arith)
-  within a (suc n) h = go (o a) (within (suc a) n) h
+  -- a refusal that is told lies among them, and is its element's own
+  told : (a n : ℕ) → 5 ≤ numberOf (answerFrom o a n) → (positionOf (answerFrom o a n) < a + n) × Refuses (o (positionOf (answerFrom o a n)))
+  told a zero h = absurd (omega arith)
+  told a (suc n) h = go (o a) refl (told (suc a) n) h
     where
-      go : (x : Outcome) → (5 ≤ numberOf (answerFrom o (suc a) n) → positionOf (answerFrom o (suc a) n) < suc a + n) → 5 ≤ numberOf (answerNext x a (answerFrom o (suc a) n)) → positionOf (answerNext x a (answerFrom o (suc a) n)) < a + suc n
-      go (Stored b) f h = omega (arith, f h)
-      go (NanOrInf v) f h = omega arith
-      go (OutOfRange v lo hi) f h = omega arith
-      go (FloatOutOfRange v lo hi) f h = omega arith
+      R : Answer
+      R = answerFrom o (suc a) n
+
+      here : a < a + suc n
+      here = omega arith
+
+      go : (x : Outcome) → o a ≡ x → (5 ≤ numberOf R → (positionOf R < suc a + n) × Refuses (o (positionOf R))) → 5 ≤ numberOf (answerNext x a R) → (positionOf (answerNext x a R) < a + suc n) × Refuses (o (positionOf (answerNext x a R)))
+      go (Stored b) e f h = let g = f h in (omega (arith, g .0), g .1)
+      go (NanOrInf v) e f h = (here, subst Refuses (sym e) tt)
+      go (OutOfRange v lo hi) e f h = (here, subst Refuses (sym e) tt)
+      go (FloatOutOfRange v lo hi) e f h = (here, subst Refuses (sym e) tt)
 
   -- an element before any refusal is stored, and its place holds it
   stored : (a n i : ℕ) (d : List ℕ) → i < n → (5 ≤ numberOf (answerFrom o a n) → a + i < positionOf (answerFrom o a n)) → (b : ℕ) × (o (a + i) ≡ Stored b) × (patternAt w (bytesFrom o w a n d) i ≡ b % 256 ^ w)
@@ -143,8 +149,9 @@ module _ (I : Inputs) where
         ap (drop (p * dw I)) (destination-is I t)
         ∙ kept o (dw I) 0 n p (I .destination) (subst (λ (r : Answer). 5 ≤ numberOf r) (answer-is I t) h) (ap positionOf (sym (answer-is I t)) ∙ sym (zero-add p))
 
-    in-chunk : 5 ≤ numberOf (answerOf I) → positionOf (answerOf I) < n
-    in-chunk h = subst (λ (r : Answer). positionOf r < n) (sym (answer-is I t)) (subst (λ (z : ℕ). positionOf (answerFrom o 0 n) < z) (zero-add n) (within o (dw I) 0 n (subst (λ (r : Answer). 5 ≤ numberOf r) (answer-is I t) h)))
+    bad-one : 5 ≤ numberOf (answerOf I) → (positionOf (answerOf I) < n) × Refuses (o (positionOf (answerOf I)))
+    bad-one h = subst (λ (r : Answer). (positionOf r < n) × Refuses (o (positionOf r))) (sym (answer-is I t))
+        (subst (λ (z : ℕ). (positionOf (answerFrom o 0 n) < z) × Refuses (o (positionOf (answerFrom o 0 n)))) (zero-add n) (told o (dw I) 0 n (subst (λ (r : Answer). 5 ≤ numberOf r) (answer-is I t) h)))
 
     not-early : 1 ≤ numberOf (answerOf I) → numberOf (answerOf I) ≤ 4 → ⊥
     not-early l h = ⊎-elim (λ (e : numberOf (answerFrom o 0 n) ≡ 0). omega (arith, ap numberOf (answer-is I t))) (λ (e : 5 ≤ numberOf (answerFrom o 0 n)). omega (arith, ap numberOf (answer-is I t))) (elements-answer o 0 n)
@@ -157,13 +164,15 @@ module _ (I : Inputs) where
         numbered = numbers (answerOf I);
         all-converted = λ z i l. place t i l (λ h. absurd (omega arith));
         untouched = λ l h. absurd (not-early t l h);
-        before = λ h i l. place t i (omega (arith, in-chunk t h)) (λ _. l);
+        bad = λ h. bad-one t h;
+        before = λ h i l. place t i (omega (arith, bad-one t h .0)) (λ _. l);
         after = λ h. rest t h;
       }
       go false e = let r = refused-early e in record {
         numbered = numbers (answerOf I);
         all-converted = λ z i l. absurd (omega arith);
         untouched = λ l h. left-alone e;
+        bad = λ h. absurd (omega arith);
         before = λ h i l. absurd (omega arith);
         after = λ h. absurd (omega arith);
       }

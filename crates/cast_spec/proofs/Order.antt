@@ -14,7 +14,7 @@ use Rattle.kinds.specs.declared.OutOfRangeMode.{OutOfRangeMode}
 use Rattle.kinds.specs.declared.OutOfRangeMode.the-variants.{None, Clamp, Wrap}
 use Rattle.cast_spec.specs.Element.{Settings}
 use Rattle.cast_spec.specs.Chunk.{Call}
-use Rattle.cast_spec.specs.Demand3.{Taken, Pick, RefusedBy, Kept, Handled, Rounded, Wraps, Wrapped, _≤ᵉ_, Converted}
+use Rattle.cast_spec.specs.Demand3.{Taken, Pick, RefusedBy, Kept, Handled, Rounded, Wraps, Wrapped, _≤ᵉ_, Compared}
 use Rattle.kinds.specs.declared.Answer.{Answer}
 use Rattle.grid.specs.Round.{pick}
 use Rattle.patterns.proofs.AnyKind.{high-zero, low-zero}
@@ -115,7 +115,7 @@ ordered k y y′ v v′ h (high a e) (high b f) = rw (e, f) (high-high k)
 
 -- ---- the law
 pub order-of : (c : Call) (r : Answer) (res : ℕ → Value) → ((i : ℕ) (x : ℤ) → Taken c i x → Rounded (c .settings) r (res i) i x)
-    → (i j : ℕ) (x x′ : ℤ) → Converted c r i x → Converted c r j x′ → x ≤ℤ x′ → res i ≤ᵉ res j
+    → (i j : ℕ) (x x′ : ℤ) → Compared c r i x → Compared c r j x′ → x ≤ℤ x′ → res i ≤ᵉ res j
 order-of c r res each i j x x′ a b h =
     let S = c .settings in
     let A = each i x (a .0) in

@@ -11,9 +11,8 @@ use Rattle.patterns.specs.Value.{valueOf}
 use Rattle.kinds.specs.declared.Outcome.{Outcome}
 use Rattle.kinds.specs.declared.Outcome.the-variants.{Stored, NanOrInf, OutOfRange, FloatOutOfRange}
 use Rattle.bytes_le.specs.Bytes.{patternAt}
-use Rattle.cast_spec.specs.Chunk.{answerNext, answerFrom, bytesNext, bytesFrom}
+use Rattle.cast_spec.specs.Chunk.{answerNext, answerFrom, bytesNext, bytesFrom, Refuses}
 use Rattle.kinds.specs.Answer.{numberOf, positionOf}
-use Rattle.cast_spec.specs.Demand3.{Refuses}
 use Rattle.cast_spec.proofs.Each.{Served}
 use Rattle.bytes_le.proofs.Places.{first-place, next-place}
 

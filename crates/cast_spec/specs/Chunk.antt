@@ -93,6 +93,12 @@ callOf I = record {
 unfoldable pub outcomeAt : Call → ℕ → Outcome
 outcomeAt c i = outcomeOf (c .settings) (c .element i)
 
+abbrev pub Refuses : Outcome → Type 0
+Refuses (Stored b) = ⊥
+Refuses (NanOrInf v) = Unit {0}
+Refuses (OutOfRange v lo hi) = Unit {0}
+Refuses (FloatOutOfRange v lo hi) = Unit {0}
+
 -- ---- the answer: "Numbers 1 to 4 are tested in that order; then elements by position."
 
 -- a refusal at i, or the answer of the rest

@@ -13,21 +13,13 @@ use Rattle.patterns.specs.Value.{Value, nan, inf, num, valueOf}
 use Rattle.kinds.specs.declared.OutOfRangeMode.{OutOfRangeMode}
 use Rattle.kinds.specs.declared.OutOfRangeMode.the-variants.{None, Clamp, Wrap}
 use Rattle.cast_spec.specs.Element.{Entry, Settings}
-use Rattle.kinds.specs.declared.Outcome.{Outcome}
-use Rattle.kinds.specs.declared.Outcome.the-variants.{Stored, NanOrInf, OutOfRange, FloatOutOfRange}
-use Rattle.cast_spec.specs.Chunk.{Inputs, Call, callOf, outcomeAt, answerOf, destinationOf, resultAt}
+use Rattle.cast_spec.specs.Chunk.{Inputs, Call, callOf, Refuses, outcomeAt, answerOf, destinationOf, resultAt}
 use Rattle.kinds.specs.Answer.{numberOf, positionOf}
 use Rattle.kinds.specs.declared.Answer.{Answer}
 
 -- ---- "any element that the call reaches, finite and matched by no map entry": all by the inputs alone
 
-abbrev pub Refuses : Outcome → Type 0
-Refuses (Stored b) = ⊥
-Refuses (NanOrInf v) = Unit {0}
-Refuses (OutOfRange v lo hi) = Unit {0}
-Refuses (FloatOutOfRange v lo hi) = Unit {0}
-
--- "the input passes every check that comes before the elements, and the element steps refuse no element before it"
+-- "the input passes every check that comes before the elements, and the element steps above refuse no element before it in the order of conversion"
 pub record Reached (c : Call) (i : ℕ) : Type 0 where
   pub passed : T (c .passed)
   pub within : i < c .count
@@ -104,12 +96,12 @@ num x ≤ᵉ inf b = T (not b)
 num x ≤ᵉ num y = x ≤ℤ y
 
 -- "converted in one chunk, neither of them wrapped"
-abbrev pub Converted : Call → Answer → ℕ → ℤ → Type 0
-Converted c r i x = Taken c i x × Kept r i × (Wrapped (c .settings) x → ⊥)
+abbrev pub Compared : Call → Answer → ℕ → ℤ → Type 0
+Compared c r i x = Taken c i x × Kept r i × (Wrapped (c .settings) x → ⊥)
 
 pub record Demand3 (c : Call) (r : Answer) (res : ℕ → Value) : Type 0 where
   pub each : (i : ℕ) (x : ℤ) → Taken c i x → Rounded (c .settings) r (res i) i x
-  pub order : (i j : ℕ) (x x′ : ℤ) → Converted c r i x → Converted c r j x′ → x ≤ℤ x′ → res i ≤ᵉ res j
+  pub order : (i j : ℕ) (x x′ : ℤ) → Compared c r i x → Compared c r j x′ → x ≤ℤ x′ → res i ≤ᵉ res j
 
 -- ---- the chunk call's contract: the inputs, the answer r and the destination d at exit
 pub record Contract (I : Inputs) (r : Answer) (d : List ℕ) : Type 0 where

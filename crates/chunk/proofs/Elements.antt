@@ -21,13 +21,12 @@ use Rattle.chunk.specs.Run.{Ready, lookedUp, settingsFor, storedAt}
 use Rattle.kinds.specs.declared.Outcome.the-variants.{Stored, FloatOutOfRange, NanOrInf, OutOfRange}
 use Rattle.mapping.proofs.Codes.{Width, float-code-width, integer-code-width}
 use Rattle.grid.proofs.Neighbours.{cut}
-use Rattle.cast_spec.specs.Chunk.{entriesFrom, width}
+use Rattle.cast_spec.specs.Chunk.{entriesFrom, width, Refuses}
 use Rattle.kinds.specs.Codes.{kindOf}
 use Rattle.mapping.proofs.Entries.{mapped-by-lookup}
 use Rattle.element.specs.Convert.{unmapped}
 use Rattle.cast_spec.proofs.Steps.{no-map}
 use Rattle.cast_spec.proofs.Demand3.{kind-fits}
-use Rattle.cast_spec.specs.Demand3.{Refuses}
 use denote.Enum.Declared.{tagOf}
 use types.Run.{OneOf}
 use Rattle.cast_spec.specs.Element as E

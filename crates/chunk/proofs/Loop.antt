@@ -14,9 +14,8 @@ use Rattle.chunk.proofs.Runs.{Run}
 use Rattle.kinds.specs.declared.Answer.{Answer}
 use Rattle.chunk.specs.Run.{ConvertedAt, PlaceIn, RunIn, outcomes, settingsFor, storedAt}
 use Rattle.kinds.specs.declared.Outcome.{Outcome}
-use Rattle.cast_spec.specs.Demand3.{Refuses}
 use Rattle.kinds.specs.declared.Outcome.the-variants.{Stored}
-use Rattle.cast_spec.specs.Chunk.{answerFrom, answerNext, bytesFrom}
+use Rattle.cast_spec.specs.Chunk.{answerFrom, answerNext, bytesFrom, Refuses}
 use Rattle.bytes_le.specs.Bytes.{fromLe, toLe, put}
 use Rattle.bytes_le.proofs.Sums.{length-toLe}
 use Rattle.chunk.proofs.Elements.{not-stored}

@@ -10,8 +10,7 @@ use lib.Seq.{take-at, drop-at, drop-drop, length-take-le}
 use Rattle.kinds.specs.declared.Outcome.{Outcome}
 use Rattle.kinds.specs.declared.Outcome.the-variants.{Stored, NanOrInf, OutOfRange, FloatOutOfRange}
 use Rattle.bytes_le.specs.Bytes.{toLe}
-use Rattle.cast_spec.specs.Chunk.{answerNext, answerFrom, bytesNext, bytesFrom}
-use Rattle.cast_spec.specs.Demand3.{Refuses}
+use Rattle.cast_spec.specs.Chunk.{answerNext, answerFrom, bytesNext, bytesFrom, Refuses}
 use Rattle.bytes_le.proofs.Sums.{length-toLe}
 use Rattle.patterns.proofs.Integers.{back}
 use Rattle.kinds.specs.declared.Answer.{Answer}

@@ -88,7 +88,7 @@ fn convert_at(
     o
 }
 
-// The answer that a refusal of the element at a position is.
+// The answer that a refusal of the element at a position is; `Converted` where the element was stored.
 pub fn refusal(position: usize, o: Outcome) -> Answer
     ensures { λ r. ⌜ r ≡ answerNext o position Answer.Converted ⌝ }
 {

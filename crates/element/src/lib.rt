@@ -39,7 +39,7 @@ fn end_magnitude(to: KindRow, negative: bool) -> u64
     select::choose(negative, to.highest, lowest)
 }
 
-// A magnitude held to the end's, where it is 2^64 or more or given as it is.
+// A magnitude held to the end's: the end where it is 2^64 or more (`far`), else the lesser of the two.
 fn clamp(magnitude: u64, far: bool, end: u64) -> u64
     ensures { λ r. ⌜ r ≡ cond far end (min magnitude end) ⌝ }
 {

@@ -31,14 +31,14 @@ pub fn int_magnitude(b: u64, signed: bool, bits: u32) -> Integer
 }
 
 // How many significant bits a magnitude has.
-pub fn significant_bits(magnitude: u64) -> u32
+fn significant_bits(magnitude: u64) -> u32
     ensures { λ r. ⌜ r ≡ size magnitude ⌝ }
 {
     64 - u64::leading_zeros(magnitude)
 }
 
 // Whether the magnitude of q units and a rest, of a number of this sign, goes up to q + 1 units.
-pub fn rounds_up(mode: RoundingMode, negative: bool, q: u64, rest: u64, unit: u64) -> bool
+fn rounds_up(mode: RoundingMode, negative: bool, q: u64, rest: u64, unit: u64) -> bool
     requires { ⌜ rest < unit ⌝ }
     ensures { λ r. ⌜ r ≡ stepsUp (ruleFor negative mode) q rest unit ⌝ }
 {

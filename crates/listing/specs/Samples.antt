@@ -12,7 +12,7 @@ use Rattle.patterns.specs.Pattern.{patternOf, nanPattern}
 use Rattle.bytes_le.specs.Bytes.{toLe}
 use Rattle.cast_spec.specs.Element.{beyond, outcomeOf}
 use Rattle.cast_spec.specs.Chunk.{settingsOf, callOf, outcomeAt, answerOf, destinationOf}
-use Rattle.report.specs.Report.{ok, refused, at}
+use Rattle.report.specs.Report.{ok, refused, at, newline}
 use Rattle.listing.specs.Listing.{refusalOf, listingOf}
 
 pub record Sample : Type 0 where
@@ -26,9 +26,9 @@ row input wanted = record { input = input; wanted = wanted }
 abbrev head : ℕ → ℕ → ℕ → ℕ → ℕ → List ℕ
 head from to rounding range entries = from ∷ to ∷ rounding ∷ range ∷ toLe 2 entries
 
--- a line that ends a text
+-- a text as a line
 abbrev end : List ℕ → List ℕ
-end text = text ++ 10 ∷ []
+end text = text ++ newline
 
 unfoldable pub samples : List Sample
 samples =

@@ -26,7 +26,7 @@ abbrev pub foundOr : Lookup → Outcome → Outcome
 foundOr (Found t) o = Stored t
 foundOr Missing o = o
 
--- "8, 9: f32, f64": two patterns of such a kind
+-- two patterns of f32 or of f64, the kinds 8 and 9
 pub record FloatPatterns (a key code : ℕ) : Type 0 where
   pub float : 8 ≤ code
   pub listed : code < 10
@@ -47,7 +47,7 @@ pub record FloatMap (b : ℕ) (keys targets : List ℕ) (n from sw dw : ℕ) : T
   pub listed : from < 10
   pub bytes : MapBytes b keys targets n from sw dw
 
--- the source is an integer kind: "0, 1, 2, 3: i8, i16, i32, i64; 4, 5, 6, 7: u8, u16, u32, u64"
+-- the source is an integer kind, 0 to 7
 pub record IntegerMap (b : ℕ) (keys targets : List ℕ) (n from sw dw : ℕ) : Type 0 where
   pub listed : from < 8
   pub bytes : MapBytes b keys targets n from sw dw

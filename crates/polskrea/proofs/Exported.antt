@@ -7,8 +7,8 @@ use Rattle.kinds.specs.declared.Answer.{Answer}
 use Rattle.kinds.specs.Answer.{numberOf}
 use Rattle.cast_spec.specs.Chunk.{Inputs, callOf, resultAt}
 use Rattle.cast_spec.specs.Demand3.{Contract, Demand3}
-use Rattle.polskrea.specs.Entry.{fieldsOf, Converted}
+use Rattle.polskrea.specs.Entry.{fieldsOf, Returned}
 
-pub exported : (I : Inputs) (a : Answer) (n : ℕ) (words d : List ℕ) → Contract I a d → n ≡ numberOf a → words ≡ fieldsOf a → Converted I n words d
+pub exported : (I : Inputs) (a : Answer) (n : ℕ) (words d : List ℕ) → Contract I a d → n ≡ numberOf a → words ≡ fieldsOf a → Returned I n words d
 exported I a n words d c e f =
     record { number = e ∙ ap numberOf (c .answer); fields = f ∙ ap fieldsOf (c .answer); bytes = c .bytes; demand3 = subst (λ (r : Answer). Demand3 (callOf I) r (resultAt I d)) (c .answer) (c .demand3) }

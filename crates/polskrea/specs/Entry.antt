@@ -24,7 +24,7 @@ fieldsOf (OutOfRange i v lo hi) = i ∷ v ∷ lowBits 64 lo ∷ hi ∷ []
 fieldsOf (FloatOutOfRange i v lo hi) = i ∷ v ∷ lo ∷ hi ∷ []
 
 -- the inputs, the number and the words that come back, and the destination at exit
-pub record Converted (I : Inputs) (n : ℕ) (words : List ℕ) (d : List ℕ) : Type 0 where
+pub record Returned (I : Inputs) (n : ℕ) (words : List ℕ) (d : List ℕ) : Type 0 where
   pub number : n ≡ numberOf (answerOf I)
   pub fields : words ≡ fieldsOf (answerOf I)
   pub bytes : d ≡ destinationOf I

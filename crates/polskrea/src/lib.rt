@@ -2,7 +2,7 @@
 ghost use mathlib.Core.Path.{_≡_};
 ghost use Rattle.cast_spec.specs.Chunk.{inputs};
 ghost use Rattle.kinds.specs.Answer.{numberOf};
-ghost use Rattle.polskrea.specs.Entry.{fieldsOf, Converted, version};
+ghost use Rattle.polskrea.specs.Entry.{fieldsOf, Returned, version};
 use kinds::Answer;
 
 // The fields of an answer, which an exported call leaves as four numbers.
@@ -55,7 +55,7 @@ pub extern "C" fn polskrea_convert(
     range: u8,
     answer: &mut Fields,
 ) -> u8
-    ensures { λ r. ⌜ Converted (inputs (now (src .entry)) (now (dst .entry)) (now (keys .entry)) (now (targets .entry)) from to rounding range) r (now (answer .exit)) (now (dst .exit)) ⌝ }
+    ensures { λ r. ⌜ Returned (inputs (now (src .entry)) (now (dst .entry)) (now (keys .entry)) (now (targets .entry)) from to rounding range) r (now (answer .exit)) (now (dst .exit)) ⌝ }
 {
     let a = chunk::convert(src, dst, keys, targets, from, to, rounding, range);
     answered(a, answer)

@@ -8,7 +8,6 @@ use lib.Bits.{and-mask, mask-lt, bitAnd}
 use lib.Dec.{lit<}
 use lib.Ieee.{size}
 use lib.Ieee.Digits.{size-lt, size-le}
-use lib.ListN.{drop}
 use lib.Pow.{pow-pos, pow-add, pow-mono}
 use Rattle.patterns.proofs.PickBits.{float-law}
 use Rattle.grid.specs.declared.RoundingMode.{RoundingMode}

@@ -7,7 +7,6 @@ use Prim.Native.Nat.{suc, ℕ, _+_, _-_, _*_, _/_, _%_, _^_, _≤_, _<_, zero}
 use native.Mathlib.Nat.{le-trans, le-of-eq, div-add-mod', mod-lt, mul-assoc, mul-le-mul-right, le-div-iff-mul-le, div-lt-iff-lt-mul, div-eq-of-lt, eq-or-lt-of-le, mod-eq-of-lt, one-mul, zero-mul, lt-of-le-of-lt, sub-eq-zero-of-le}
 use native.Mathlib.Omega.{arith}
 use lib.Dec.{ltb, eqb, lit<}
-use lib.ListN.{drop}
 use lib.Pow.{pow-pos, pow-add, pow-mono}
 use borrow.Author.Tests.{lt-ltb, le-ltb, eq-eqb, ne-eqb}
 use Rattle.grid.proofs.Kept.{pick-shift, pick-exact}

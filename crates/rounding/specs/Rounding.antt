@@ -33,6 +33,7 @@ abbrev pub quartersOf : ℕ → ℕ → ℕ
 quartersOf x half = cond (eqb x 0) 0 (cond (ltb x half) 1 (cond (eqb x half) 2 3))
 
 -- a float of p significant bits in which the exponent field of 1 is one; its smallest spacing is 2^(1076 - (one + p))
+-- one is odd: where all of the fraction is dropped, the field's last bit stands for the significand's leading 1
 pub record WholeIn (x p one : ℕ) : Type 0 where
   pub some : 2 ≤ p
   pub few : p ≤ 53
@@ -68,9 +69,10 @@ pub record UnitIn (field fraction unit : ℕ) : Type 0 where
   pub least : 64 ≤ unit
   pub small : fraction < 2 ^ 52
 
+-- so many whole numbers the magnitude of an f64's pick is
 abbrev pub wholeMag : RoundingMode → ℕ → ℕ
 wholeMag r b = unitsOf 1074 (ruleFor (leb (2 ^ 63) b) r) (bitsMag 53 0 (b % 2 ^ 63))
 
--- an f64's pick on the whole numbers, as a program holds it
+-- an f64's pick on the whole numbers, as a program holds it; the bits of an infinity or a NaN count as a finite number's, and are far
 abbrev pub wholeOf : RoundingMode → ℕ → Whole
 wholeOf r b = record { negative = leb (2 ^ 63) b; magnitude = wholeMag r b % 2 ^ 64; far = leb (2 ^ 64) (wholeMag r b) }

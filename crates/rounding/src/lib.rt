@@ -23,7 +23,7 @@ fn bias(q: u64, h: u64, mode: RoundingMode, negative: bool) -> u64
 }
 
 // The magnitude m of a number of the given sign, with its lowest j digits dropped by the rule.
-pub fn round_shift(m: u64, j: u32, mode: RoundingMode, negative: bool) -> u64
+fn round_shift(m: u64, j: u32, mode: RoundingMode, negative: bool) -> u64
     requires { ⌜ Dropped m j ⌝ }
     ensures { λ r. ⌜ r ≡ step (ruleFor negative mode) (m / 2 ^ j) (m % 2 ^ j) (2 ^ j) ⌝ }
 {
@@ -83,7 +83,7 @@ pub fn round_with_mode_f32(b: u32, mode: RoundingMode) -> u32
     (b - magnitude) + (round_magnitude(magnitude as u64, 24, 127, mode, negative) as u32)
 }
 
-// How many of 64 digits to drop where j are to go: dropping 63 of 53 leaves what dropping more would.
+// How many digits to drop of a number of at most 53, where j are to go: dropping 63 leaves what dropping more would.
 fn at_most_63(j: u64) -> u32
     ensures { λ r. ⌜ r ≡ min j 63 ⌝ }
 {

@@ -1,4 +1,4 @@
--- Numbers and words as text, in ASCII. Assumes nothing.
+-- Numbers as text, in ASCII. Assumes nothing.
 use mathlib.Core.Bool.{cond}
 use mathlib.Core.List.{List, [], _∷_}
 use Prim.Native.Nat.{ℕ, zero, suc, _+_, _/_, _%_, _^_}

@@ -54,7 +54,7 @@ pub fn put_digits(out: &mut [u8], at: usize, base: u64, k: usize, v: u64) -> usi
     end
 }
 
-// How many decimal digits a number of at most four takes.
+// How many decimal digits a number below 10,000 takes.
 fn decimal_places(v: usize) -> usize
     requires { ⌜ v < 10000 ⌝ }
     ensures { λ r. ⌜ r ≡ places v ⌝ }

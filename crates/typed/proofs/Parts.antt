@@ -16,8 +16,7 @@ use Rattle.kinds.specs.declared.Answer.the-variants as A
 use Rattle.mapping.specs.declared.Lookup.the-variants.{Missing}
 use Rattle.mapping.specs.declared.Lookup.{Lookup}
 use Rattle.element.specs.Convert.{unmapped}
-use Rattle.cast_spec.specs.Demand3.{Refuses}
-use Rattle.cast_spec.specs.Chunk.{answerNext}
+use Rattle.cast_spec.specs.Chunk.{answerNext, Refuses}
 use Rattle.typed.specs.declared.State.{State}
 use Rattle.typed.specs.Loop.{going, stopped, stateAt, checkOf, startOf, outcomeFor, nextState, storedIn}
 

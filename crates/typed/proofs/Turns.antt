@@ -21,11 +21,11 @@ use Rattle.kinds.specs.declared.Answer.the-variants as A
 use Rattle.mapping.proofs.Entries.{mapped-by-lookup}
 use Rattle.mapping.specs.Map.{lookupOf, foundOr}
 use Rattle.mapping.specs.declared.Lookup.{Lookup}
-use Rattle.cast_spec.specs.Demand3.{Contract, Refuses}
+use Rattle.cast_spec.specs.Demand3.{Contract}
 use Rattle.cast_spec.proofs.Steps.{no-map}
 use Rattle.cast_spec.proofs.Demand3.{contract, kind-fits, answer-is, destination-is}
 use Rattle.cast_spec.specs.Element.{Entry, Settings, converted, outcomeOf}
-use Rattle.cast_spec.specs.Chunk.{Inputs, width, settingsOf, codesListed, mapWhole, bytesWhole, callOf, outcomeAt, answerNext, answerFrom, answerOf, bytesFrom, destinationOf, entriesFrom}
+use Rattle.cast_spec.specs.Chunk.{Inputs, width, settingsOf, codesListed, mapWhole, bytesWhole, callOf, outcomeAt, answerNext, answerFrom, answerOf, bytesFrom, destinationOf, entriesFrom, Refuses}
 use Rattle.chunk.proofs.Runs.{Run, done, refused, kept}
 use Rattle.chunk.proofs.Exits.{width-pos, unknown, mismatch}
 use Rattle.typed.specs.Loop.{going, stopped, stateAt, startOf, outcomeFor, nextState, storedIn}

@@ -25,7 +25,7 @@ typedInputs from to src dst es rounding range = inputs
 
 -- the value of a refusal that concerns a NaN: 0x7ff8000000000000
 abbrev pub refusedNan : ℕ
-refusedNan = 9221120237041090560
+refusedNan = 0x7ff8_0000_0000_0000
 
 -- ---- a typed entry's contract is the chunk call's: the answer and every byte by an equation with the definitions, and demand 3.
 -- Free is which pattern a NaN in the destination has; it is a NaN, and stands here as the quiet one. A refused NaN's value is `refusedNan`.

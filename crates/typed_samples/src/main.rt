@@ -35,13 +35,14 @@ fn four_bytes(a: u8, b: u8, c: u8, d: u8) -> [u8; 4] {
     [a, b, c, d]
 }
 
-// Puts a pattern's lowest four bytes at a place, and all eight.
+// Puts a pattern's lowest four bytes at a place.
 fn put_word(out: &mut [u8], at: usize, v: u64)
     requires { ⌜ at + 4 ≤ length (now out) ⌝ }
 {
     bytes_le::write_le(out, at, 4, v);
 }
 
+// Puts all eight.
 fn put_long(out: &mut [u8], at: usize, v: u64)
     requires { ⌜ at + 8 ≤ length (now out) ⌝ }
 {

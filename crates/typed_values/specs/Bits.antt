@@ -10,7 +10,7 @@ use Rattle.patterns.specs.Pattern.{lowBits}
 -- ---- patterns
 
 -- A float of the language is one that its format holds. The language has one NaN and gives it no bits; `toBits` writes the quiet NaN for it: sign 0,
--- of the fraction only the highest bit.
+-- of the fraction only the highest bit. A value that the format does not hold, which no program has, gets 0.
 abbrev pub floatBits : Format → Float → ℕ
 floatBits f x = cond (fits f x) (toBits f x) 0
 

@@ -9,8 +9,7 @@ use denote.Ref.{now}
 use borrow.Author.Needs.{needs}
 use Rattle.kinds.specs.declared.Outcome.the-variants.{Stored}
 use Rattle.kinds.specs.declared.Answer.the-variants.{Converted}
-use Rattle.cast_spec.specs.Chunk.{answerNext}
-use Rattle.cast_spec.specs.Demand3.{Refuses}
+use Rattle.cast_spec.specs.Chunk.{answerNext, Refuses}
 use Rattle.chunk.specs.Run.{settingsFor}
 use Rattle.chunk.proofs.Elements.{refuses}
 use Rattle.chunk.proofs.Loop.{At, finalAnswer, finalBytes, starts, ends, stops, goes-on, source-end, target-end, turn-asks}
