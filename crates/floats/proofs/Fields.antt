@@ -17,7 +17,7 @@ use Rattle.patterns.specs.Kind.{binary}
 use Rattle.patterns.specs.Value.{num, negative, floatValue, valueOf}
 use Rattle.patterns.proofs.Floats.{is-num, is-inf, is-nan}
 use Rattle.floats.specs.Parts.{fieldOf, fractionOf, partsOf}
-use Rattle.floats.specs.Class.{rangeOf, classBy, Sorted, classFrom, classOf, classValue}
+use Rattle.floats.specs.Class.{fieldRangeOf, classBy, Sorted, classFrom, classOf, classValue}
 use Rattle.floats.specs.declared.FieldRange.{FieldRange}
 use Rattle.floats.specs.declared.FieldRange.the-variants.{Subnormal, Normal, Special}
 use Rattle.floats.specs.declared.Parts.{Parts}
@@ -71,16 +71,16 @@ module _ (p w b : ℕ) (some : 0 < p) where
 
 -- ---- the three ranges of an exponent field
 module _ (w x : ℕ) where
-  pub range-subnormal : x ≡ 0 → Subnormal ≡ rangeOf w x
+  pub range-subnormal : x ≡ 0 → Subnormal ≡ fieldRangeOf w x
   range-subnormal e = simp (eq-eqb x 0 e)
 
-  pub range-normal : 0 < x → x < 2 ^ w - 1 → Normal ≡ rangeOf w x
+  pub range-normal : 0 < x → x < 2 ^ w - 1 → Normal ≡ fieldRangeOf w x
   range-normal h l = simp (ne-eqb x 0 (λ (e : x ≡ 0). omega arith), lt-ltb x (2 ^ w - 1) l)
 
-  pub range-special : 0 < x → 2 ^ w - 1 ≤ x → Special ≡ rangeOf w x
+  pub range-special : 0 < x → 2 ^ w - 1 ≤ x → Special ≡ fieldRangeOf w x
   range-special h l = simp (ne-eqb x 0 (λ (e : x ≡ 0). omega arith), le-ltb x (2 ^ w - 1) l)
 
-  normal-some : rangeOf w x ≡ Normal → 0 < x
+  normal-some : fieldRangeOf w x ≡ Normal → 0 < x
   normal-some e = cut 0 x (λ (h : 0 < x). h) (λ (h : x ≤ 0). let s : Subnormal ≡ Normal = range-subnormal (omega arith) ∙ e in let z : _≡_ {A = ℕ} 0 1 = cc in absurd (omega arith))
 
 -- ---- the four classes
@@ -109,7 +109,7 @@ module _ (p w b : ℕ) {q : Parts} (is : q ≡ partsOf p w b) where
   fraction-is = ap (λ (z : Parts). z .fraction) is
 
   -- with the range of the exponent field, and the leading bit
-  module _ {r : FieldRange} (sorted : r ≡ rangeOf w (q .exponent)) where
+  module _ {r : FieldRange} (sorted : r ≡ fieldRangeOf w (q .exponent)) where
     pub sorted-parts : 0 < p → p ≤ 53 → Sorted q r (2 ^ (p - 1))
     sorted-parts some few = record {
       small = omega (arith, fraction-is, fraction-lt p w b some);

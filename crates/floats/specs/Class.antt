@@ -14,8 +14,8 @@ use Rattle.floats.specs.declared.Class.{Class}
 use Rattle.floats.specs.declared.Class.the-variants.{Finite, Infinite, NotANumber}
 
 -- the range of an exponent field x of w bits: 0, below the field of ones, and the field of ones
-abbrev pub rangeOf : ℕ → ℕ → FieldRange
-rangeOf w x = cond (eqb x 0) Subnormal (cond (ltb x (2 ^ w - 1)) Normal Special)
+abbrev pub fieldRangeOf : ℕ → ℕ → FieldRange
+fieldRangeOf w x = cond (eqb x 0) Subnormal (cond (ltb x (2 ^ w - 1)) Normal Special)
 
 -- by that range, the field x and the fraction t, where the leading bit stands for h
 abbrev pub classBy : FieldRange → ℕ → ℕ → ℕ → Class
@@ -24,7 +24,7 @@ classBy Normal h x t = Finite (h + t) (x - 1)
 classBy Special h x t = cond (eqb t 0) Infinite NotANumber
 
 abbrev pub classFrom : ℕ → ℕ → ℕ → ℕ → Class
-classFrom p w x t = classBy (rangeOf w x) (2 ^ (p - 1)) x t
+classFrom p w x t = classBy (fieldRangeOf w x) (2 ^ (p - 1)) x t
 
 -- fields whose leading bit stands for h, and the range of the exponent field: a normal number's is not 0
 pub record Sorted (parts : Parts) (range : FieldRange) (h : ℕ) : Type 0 where

@@ -1,7 +1,7 @@
 // An f32's or f64's bit pattern taken apart and sorted.
 ghost use mathlib.Core.Path.{_≡_};
 ghost use Rattle.floats.specs.Parts.{partsOf};
-ghost use Rattle.floats.specs.Class.{rangeOf, Sorted, classBy, classOf};
+ghost use Rattle.floats.specs.Class.{fieldRangeOf, Sorted, classBy, classOf};
 
 // Sign, exponent field and fraction of a float's bits.
 pub struct Parts {
@@ -48,7 +48,7 @@ pub fn parts_f32(b: u32) -> Parts
 
 // An f64's exponent field, sorted by range.
 fn sort_f64(exponent: u64) -> FieldRange
-    ensures { λ r. ⌜ r ≡ rangeOf 11 exponent ⌝ }
+    ensures { λ r. ⌜ r ≡ fieldRangeOf 11 exponent ⌝ }
 {
     match exponent {
         0 => FieldRange::Subnormal,
@@ -60,7 +60,7 @@ fn sort_f64(exponent: u64) -> FieldRange
 
 // An f32's exponent field, sorted by range.
 fn sort_f32(exponent: u64) -> FieldRange
-    ensures { λ r. ⌜ r ≡ rangeOf 8 exponent ⌝ }
+    ensures { λ r. ⌜ r ≡ fieldRangeOf 8 exponent ⌝ }
 {
     match exponent {
         0 => FieldRange::Subnormal,

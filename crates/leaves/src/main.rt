@@ -3,6 +3,7 @@ ghost use mathlib.Core.Path.{_≡_};
 ghost use Prim.Native.Nat.{_<_, _≤_, _+_};
 ghost use lib.ListN.{length};
 ghost use Rattle.integers.specs.Magnitude.{IntegerPattern};
+use floats::Class;
 use grid::RoundingMode;
 use libc::STDOUT_FILENO;
 use mapping::Lookup;
@@ -68,6 +69,48 @@ fn parts_32(b: u32) {
     number(p.exponent, 2);
     number(p.fraction, 6);
     end();
+}
+
+// A finite number's significand, of so many digits, and exponent, or what else the float is.
+fn put_class(c: Class, width: usize) {
+    match c {
+        Class::Finite {
+            significand,
+            exponent,
+        } => {
+            number(significand, width);
+            number(exponent, 3);
+        }
+        Class::Infinite => text(b" infinite"),
+        Class::NotANumber => text(b" nan"),
+    }
+    end();
+}
+
+fn class_64(b: u64) {
+    text(b"classify_f64");
+    number(b, 16);
+    put_class(floats::classify_f64(b), 14);
+}
+
+fn class_32(b: u32) {
+    text(b"classify_f32");
+    number(wide(b), 8);
+    put_class(floats::classify_f32(b), 6);
+}
+
+// The ends of the three ranges of an exponent field.
+fn float_classes() {
+    class_64(0x000fffffffffffff);
+    class_64(0x8010000000000000);
+    class_64(0x7fefffffffffffff);
+    class_64(0xfff0000000000000);
+    class_64(0x7ff0000000000001);
+    class_32(0x007fffff);
+    class_32(0x80800000);
+    class_32(0x7f7fffff);
+    class_32(0xff800000);
+    class_32(0x7f800001);
 }
 
 fn neighbours_64(b: u64) {
@@ -394,6 +437,7 @@ fn main() {
     bytes(&mut s, 0x0123456789abcdef);
     bytes(&mut s, 0xffffffffffffff80);
     float_parts();
+    float_classes();
     float_neighbours();
     float_widths();
     whole_numbers();
