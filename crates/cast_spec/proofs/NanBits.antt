@@ -24,11 +24,13 @@ use Rattle.patterns.proofs.Floats.{nan-back}
 use Rattle.patterns.proofs.Integers.{no-integer-nan}
 use Rattle.kinds.specs.Codes.{kindOf, roundingOf, rangeOf}
 use Rattle.kinds.specs.declared.OutOfRangeMode.{OutOfRangeMode}
+use Rattle.kinds.specs.declared.Lookup.{Lookup}
+use Rattle.kinds.specs.declared.Lookup.the-variants.{Found}
 use Rattle.kinds.specs.declared.Outcome.{Outcome}
 use Rattle.kinds.specs.declared.Outcome.the-variants.{Stored, NanOrInf, OutOfRange, FloatOutOfRange}
 use Rattle.kinds.specs.declared.Answer.{Answer}
 use Rattle.kinds.specs.declared.Answer.the-variants as A
-use Rattle.cast_spec.specs.Element.{Entry, Settings, matches, mapped, converted, outcomeOf}
+use Rattle.cast_spec.specs.Element.{Entry, Settings, matches, lookupOf, foundOr, converted, outcomeOf}
 use Rattle.cast_spec.specs.Chunk.{Inputs, inputs, entriesFrom, sw, dw, settingsOf, codesListed, mapWhole, bytesWhole, countsMeet, callOf, outcomeAt, answerNext, answerFrom, answerOf, bytesNext, bytesFrom, destinationOf}
 use Rattle.cast_spec.specs.Demand3.{Contract}
 use Rattle.cast_spec.specs.NanBits.{Alike, AlikeBytes, AlikeInputs, SameAnswer, SameButNans}
@@ -153,26 +155,26 @@ module _ (from to : ℕ) (rule : RoundingMode) (choice : OutOfRangeMode) where
 
   -- the map, n entries from the position j on
   module _ (sw dw : ℕ) (ks ts ks′ ts′ : List ℕ) where
-    mapped-alike : (n j : ℕ) → ((i : ℕ) → i < j + n → Alike (kindOf from) (patternAt sw ks i) (patternAt sw ks′ i)) → ((i : ℕ) → i < j + n → Alike (kindOf to) (patternAt dw ts i) (patternAt dw ts′ i))
-        → (v : Value) (o o′ : Outcome) → Outcomes (kindOf to) o o′ → Outcomes (kindOf to) (mapped (kindOf from) v (entriesFrom sw dw ks ts j n) o) (mapped (kindOf from) v (entriesFrom sw dw ks′ ts′ j n) o′)
-    mapped-alike zero j hk ht v o o′ h = h
-    mapped-alike (suc n) j hk ht v o o′ h =
+    lookup-alike : (n j : ℕ) → ((i : ℕ) → i < j + n → Alike (kindOf from) (patternAt sw ks i) (patternAt sw ks′ i)) → ((i : ℕ) → i < j + n → Alike (kindOf to) (patternAt dw ts i) (patternAt dw ts′ i))
+        → (v : Value) (o o′ : Outcome) → Outcomes (kindOf to) o o′ → Outcomes (kindOf to) (foundOr (lookupOf (kindOf from) v (entriesFrom sw dw ks ts j n)) o) (foundOr (lookupOf (kindOf from) v (entriesFrom sw dw ks′ ts′ j n)) o′)
+    lookup-alike zero j hk ht v o o′ h = h
+    lookup-alike (suc n) j hk ht v o o′ h =
         let l : j < j + suc n = omega arith in
-        subst (λ (x : Value). Outcomes (kindOf to) (cond (matches v (valueOf (kindOf from) (patternAt sw ks j))) (Stored (patternAt dw ts j)) (mapped (kindOf from) v (entriesFrom sw dw ks ts (suc j) n) o)) (cond (matches v x) (Stored (patternAt dw ts′ j)) (mapped (kindOf from) v (entriesFrom sw dw ks′ ts′ (suc j) n) o′)))
+        subst (λ (x : Value). Outcomes (kindOf to) (foundOr (lookupOf (kindOf from) v (entriesFrom sw dw ks ts j (suc n))) o) (foundOr (cond (matches v x) (Found (patternAt dw ts′ j)) (lookupOf (kindOf from) v (entriesFrom sw dw ks′ ts′ (suc j) n))) o′))
         (same-value (kindOf from) (patternAt sw ks j) (patternAt sw ks′ j) (hk j l))
-        (go (matches v (valueOf (kindOf from) (patternAt sw ks j))) (stored-alike (kindOf to) (patternAt dw ts j) (patternAt dw ts′ j) (ht j l)) (mapped-alike n (suc j) (λ i m. hk i (omega arith)) (λ i m. ht i (omega arith)) v o o′ h))
+        (go (matches v (valueOf (kindOf from) (patternAt sw ks j))) _ _ (stored-alike (kindOf to) (patternAt dw ts j) (patternAt dw ts′ j) (ht j l)) (lookup-alike n (suc j) (λ i m. hk i (omega arith)) (λ i m. ht i (omega arith)) v o o′ h))
       where
-        go : (t : Bool) {a b c d : Outcome} → Outcomes (kindOf to) a b → Outcomes (kindOf to) c d → Outcomes (kindOf to) (cond t a c) (cond t b d)
-        go true x y = x
-        go false x y = y
+        go : (t : Bool) (l m : Lookup) {a b : ℕ} → Outcomes (kindOf to) (Stored a) (Stored b) → Outcomes (kindOf to) (foundOr l o) (foundOr m o′) → Outcomes (kindOf to) (foundOr (cond t (Found a) l) o) (foundOr (cond t (Found b) m) o′)
+        go true l m x y = x
+        go false l m x y = y
 
     pub outcome-alike : (n a b : ℕ) → ((i : ℕ) → i < n → Alike (kindOf from) (patternAt sw ks i) (patternAt sw ks′ i)) → ((i : ℕ) → i < n → Alike (kindOf to) (patternAt dw ts i) (patternAt dw ts′ i)) → Alike (kindOf from) a b
         → Outcomes (kindOf to) (outcomeOf (S (entriesFrom sw dw ks ts 0 n)) a) (outcomeOf (S (entriesFrom sw dw ks′ ts′ 0 n)) b)
     unfolding outcomeOf
     outcome-alike n a b hk ht h =
-        subst (λ (x : Value). Outcomes (kindOf to) (mapped (kindOf from) (valueOf (kindOf from) a) (entriesFrom sw dw ks ts 0 n) (converted (S (entriesFrom sw dw ks ts 0 n)) a (kindOf to) (valueOf (kindOf from) a))) (mapped (kindOf from) x (entriesFrom sw dw ks′ ts′ 0 n) (converted (S (entriesFrom sw dw ks′ ts′ 0 n)) b (kindOf to) (valueOf (kindOf from) b))))
+        subst (λ (x : Value). Outcomes (kindOf to) (foundOr (lookupOf (kindOf from) (valueOf (kindOf from) a) (entriesFrom sw dw ks ts 0 n)) (converted (S (entriesFrom sw dw ks ts 0 n)) a (kindOf to) (valueOf (kindOf from) a))) (foundOr (lookupOf (kindOf from) x (entriesFrom sw dw ks′ ts′ 0 n)) (converted (S (entriesFrom sw dw ks′ ts′ 0 n)) b (kindOf to) (valueOf (kindOf from) b))))
         (same-value (kindOf from) a b h)
-        (mapped-alike n 0 (λ i m. hk i (omega arith)) (λ i m. ht i (omega arith)) (valueOf (kindOf from) a) _ _ (converted-alike (entriesFrom sw dw ks ts 0 n) (entriesFrom sw dw ks′ ts′ 0 n) a b h))
+        (lookup-alike n 0 (λ i m. hk i (omega arith)) (λ i m. ht i (omega arith)) (valueOf (kindOf from) a) _ _ (converted-alike (entriesFrom sw dw ks ts 0 n) (entriesFrom sw dw ks′ ts′ 0 n) a b h))
 
 -- ---- the answer, and the destination, of n outcomes from the position i on
 module _ (k : Kind) (o o′ : ℕ → Outcome) where

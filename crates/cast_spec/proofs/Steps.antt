@@ -12,23 +12,24 @@ use Rattle.grid.specs.Round.{pick}
 use Rattle.grid.proofs.Int.{ints, →eq}
 use Rattle.patterns.specs.Kind.{Kind, integer, binary, gridOf, lowest, highest, InRange}
 use Rattle.patterns.specs.Value.{Value, nan, inf, num, negative, valueOf}
-use Rattle.cast_spec.specs.Element.{Entry, Settings, matches, inRange, ranged, converted, mapped, outcomeOf}
+use Rattle.cast_spec.specs.Element.{Entry, Settings, matches, lookupOf, foundOr, inRange, ranged, converted, outcomeOf}
 use Rattle.patterns.specs.Pattern.{asF64}
 use Rattle.kinds.specs.declared.OutOfRangeMode.{OutOfRangeMode}
+use Rattle.kinds.specs.declared.Lookup.{Lookup}
+use Rattle.kinds.specs.declared.Lookup.the-variants.{Found, Missing}
 use Rattle.kinds.specs.declared.Outcome.{Outcome}
-use Rattle.kinds.specs.declared.Outcome.the-variants.{Stored}
 
 -- ---- the map
-no-match : (k : Kind) (x : ℤ) (es : List Entry) (o : Outcome) → ((e : Entry) → List·Memᴰ e es → valueOf k (e .key) ≡ num x → ⊥) → mapped k (num x) es o ≡ o
-no-match k x [] o h = refl
-no-match k x (e ∷ es) o h = go (valueOf k (e .key)) (h e (List·Memᴰ·head refl)) (no-match k x es o (λ f m. h f (List·Memᴰ·tail m)))
+no-match : (k : Kind) (x : ℤ) (es : List Entry) → ((e : Entry) → List·Memᴰ e es → valueOf k (e .key) ≡ num x → ⊥) → lookupOf k (num x) es ≡ Missing
+no-match k x [] h = refl
+no-match k x (e ∷ es) h = go (valueOf k (e .key)) (h e (List·Memᴰ·head refl)) (no-match k x es (λ f m. h f (List·Memᴰ·tail m)))
   where
-    go : (v : Value) → (v ≡ num x → ⊥) → mapped k (num x) es o ≡ o → cond (matches (num x) v) (Stored (e .target)) (mapped k (num x) es o) ≡ o
+    go : (v : Value) → (v ≡ num x → ⊥) → lookupOf k (num x) es ≡ Missing → cond (matches (num x) v) (Found (e .target)) (lookupOf k (num x) es) ≡ Missing
     go nan f rest = rest
     go (inf b) f rest = rest
     go (num y) f rest = by (leZ x y) (leZ y x) leZ-yes leZ-yes
       where
-        by : (c d : Bool) → (T c → x ≤ℤ y) → (T d → y ≤ℤ x) → cond (c && d) (Stored (e .target)) (mapped k (num x) es o) ≡ o
+        by : (c d : Bool) → (T c → x ≤ℤ y) → (T d → y ≤ℤ x) → cond (c && d) (Found (e .target)) (lookupOf k (num x) es) ≡ Missing
         by true true a b = let l = a tt in let m = b tt in absurd (f (ap num (→eq y x (omega ints))))
         by true false a b = rest
         by false true a b = rest
@@ -39,8 +40,8 @@ pub outcome-is : (S : Settings) (b : ℕ) (x : ℤ) → valueOf (S .from) b ≡ 
     → outcomeOf S b ≡ ranged (S .to) (S .range) (asF64 (S .from) b) (negative (S .from) b) (pick (gridOf (S .to)) (S .rule) x)
 unfolding outcomeOf
 outcome-is S b x e h =
-    ap {B = Outcome} (λ (v : Value). mapped (S .from) v (S .entries) (converted S b (S .to) v)) e
-    ∙ no-match (S .from) x (S .entries) (converted S b (S .to) (num x)) h
+    ap {B = Outcome} (λ (v : Value). foundOr (lookupOf (S .from) v (S .entries)) (converted S b (S .to) v)) e
+    ∙ ap (λ (l : Lookup). foundOr l (converted S b (S .to) (num x))) (no-match (S .from) x (S .entries) h)
 
 -- ---- a conversion does not look at the entries
 pub no-map : (from to : Kind) (rule : RoundingMode) (choice : OutOfRangeMode) (es : List Entry) (b : ℕ) (k : Kind) (v : Value)

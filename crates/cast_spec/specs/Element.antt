@@ -12,6 +12,8 @@ use Rattle.patterns.specs.Value.{Value, nan, inf, num, negative, valueOf}
 use Rattle.patterns.specs.Pattern.{patternOf, infinity, nanPattern, asF64}
 use Rattle.kinds.specs.declared.OutOfRangeMode.{OutOfRangeMode}
 use Rattle.kinds.specs.declared.OutOfRangeMode.the-variants.{None, Clamp, Wrap}
+use Rattle.kinds.specs.declared.Lookup.{Lookup}
+use Rattle.kinds.specs.declared.Lookup.the-variants.{Found, Missing}
 use Rattle.kinds.specs.declared.Outcome.{Outcome}
 use Rattle.kinds.specs.declared.Outcome.the-variants.{Stored, NanOrInf, OutOfRange, FloatOutOfRange}
 
@@ -41,10 +43,15 @@ matches (num x) nan = false
 matches (num x) (inf b) = false
 matches (num x) (num y) = leZ x y && leZ y x
 
--- "The first matching entry wins. .. The target is handed out unchanged and is not range-checked." o is the outcome where none matches
-abbrev pub mapped : Kind → Value → List Entry → Outcome → Outcome
-mapped k v [] o = o
-mapped k v (e ∷ es) o = cond (matches v (valueOf k (e .key))) (Stored (e .target)) (mapped k v es o)
+-- "The first matching entry wins."
+abbrev pub lookupOf : Kind → Value → List Entry → Lookup
+lookupOf k v [] = Missing
+lookupOf k v (e ∷ es) = cond (matches v (valueOf k (e .key))) (Found (e .target)) (lookupOf k v es)
+
+-- "The target is handed out unchanged and is not range-checked." o is the outcome where no entry matches
+abbrev pub foundOr : Lookup → Outcome → Outcome
+foundOr (Found t) o = Stored t
+foundOr Missing o = o
 
 -- ---- range
 
@@ -86,4 +93,4 @@ converted S b (binary p w s) (inf neg) = Stored (infinity p w neg)
 converted S b (binary p w s) nan = Stored (nanPattern (S .from) p w b)
 
 unfoldable pub outcomeOf : Settings → ℕ → Outcome
-outcomeOf S b = let v = valueOf (S .from) b in mapped (S .from) v (S .entries) (converted S b (S .to) v)
+outcomeOf S b = let v = valueOf (S .from) b in foundOr (lookupOf (S .from) v (S .entries)) (converted S b (S .to) v)

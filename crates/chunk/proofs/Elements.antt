@@ -8,13 +8,13 @@ use native.Mathlib.Nat.{le-of-eq, lt-of-lt-of-le}
 use native.Mathlib.Omega.{arith}
 use lib.ListN.{length}
 use Rattle.patterns.specs.Value.{valueOf}
-use Rattle.cast_spec.specs.Element.{converted, outcomeOf}
+use Rattle.cast_spec.specs.Element.{lookupOf, foundOr, converted, outcomeOf}
 use Rattle.chunk.specs.declared.Settings.{Settings}
-use Rattle.mapping.specs.declared.Lookup.the-variants.{Found, Missing}
+use Rattle.kinds.specs.declared.Lookup.the-variants.{Found, Missing}
 use Rattle.kinds.proofs.Outcome.{the-type}
 use Rattle.patterns.specs.Kind.{bits}
-use Rattle.mapping.specs.declared.Lookup.{Lookup}
-use Rattle.mapping.specs.Map.{MapBytes, foundOr, lookupOf}
+use Rattle.kinds.specs.declared.Lookup.{Lookup}
+use Rattle.mapping.specs.Map.{MapBytes}
 use Rattle.kinds.specs.declared.Outcome.{Outcome}
 use Rattle.bytes_le.specs.Bytes.{Place}
 use Rattle.chunk.specs.Run.{Ready, lookedUp, settingsFor, storedAt}
@@ -23,7 +23,6 @@ use Rattle.mapping.proofs.Codes.{Width, float-code-width, integer-code-width}
 use Rattle.grid.proofs.Neighbours.{cut}
 use Rattle.cast_spec.specs.Chunk.{entriesFrom, width, Refuses}
 use Rattle.kinds.specs.Codes.{kindOf}
-use Rattle.mapping.proofs.Entries.{mapped-by-lookup}
 use Rattle.element.specs.Convert.{unmapped}
 use Rattle.cast_spec.proofs.Steps.{no-map}
 use Rattle.cast_spec.proofs.Demand3.{kind-fits}
@@ -60,20 +59,17 @@ module _ (s : Settings) (keys targets : List ℕ) (ready : Ready s keys targets)
     pub no-entries : s .entries ≡ 0 → Missing ≡ lookedUp s keys targets b
     no-entries e = ap (λ (n : ℕ). lookupOf (kindOf (s .from)) (valueOf (kindOf (s .from)) b) (entriesFrom (s .sw) (s .dw) keys targets 0 n)) (sym e)
 
-    by-lookup : (r : Lookup) → r ≡ lookedUp s keys targets b → outcomeOf (settingsFor s keys targets) b ≡ foundOr r (converted (settingsFor s keys targets) b (kindOf (s .to)) (valueOf (kindOf (s .from)) b))
+    by-lookup : (r : Lookup) → r ≡ lookedUp s keys targets b → foundOr r (converted (settingsFor s keys targets) b (kindOf (s .to)) (valueOf (kindOf (s .from)) b)) ≡ outcomeOf (settingsFor s keys targets) b
     unfolding outcomeOf
-    by-lookup r e =
-        let S = settingsFor s keys targets in
-        let v = valueOf (kindOf (s .from)) b in
-        mapped-by-lookup (kindOf (s .from)) v (S .entries) (converted S b (kindOf (s .to)) v) ∙ ap (λ (l : Lookup). foundOr l (converted S b (kindOf (s .to)) v)) (sym e)
+    by-lookup r e = ap (λ (l : Lookup). foundOr l (converted (settingsFor s keys targets) b (kindOf (s .to)) (valueOf (kindOf (s .from)) b))) e
 
     pub found-outcome : (r : Lookup) (t : ℕ) → r ≡ lookedUp s keys targets b → r ≡ Found t → Stored t ≡ outcomeOf (settingsFor s keys targets) b
-    found-outcome r t e f = sym (by-lookup r e ∙ ap (λ (l : Lookup). foundOr l (converted (settingsFor s keys targets) b (kindOf (s .to)) (valueOf (kindOf (s .from)) b))) f)
+    found-outcome r t e f = by-lookup (Found t) (sym f ∙ e)
 
     pub missing-outcome : (r : Lookup) (o : Outcome) → r ≡ lookedUp s keys targets b → r ≡ Missing → o ≡ unmapped (kindOf (s .from)) (kindOf (s .to)) (s .rounding) (s .range) b → o ≡ outcomeOf (settingsFor s keys targets) b
     missing-outcome r o e f g =
         g ∙ no-map (kindOf (s .from)) (kindOf (s .to)) (s .rounding) (s .range) (settingsFor s keys targets .entries) b (kindOf (s .to)) (valueOf (kindOf (s .from)) b)
-        ∙ sym (by-lookup r e ∙ ap (λ (l : Lookup). foundOr l (converted (settingsFor s keys targets) b (kindOf (s .to)) (valueOf (kindOf (s .from)) b))) f)
+        ∙ by-lookup Missing (sym f ∙ e)
 
 -- ---- an outcome that is not `Stored`, as a program tells it: by the number of its variant
 pub refuses : (o : Outcome) → OneOf (1 ∷ 2 ∷ 3 ∷ []) (tagOf the-type o) → Refuses o

@@ -9,13 +9,12 @@ use Rattle.patterns.specs.Kind.{bits}
 use Rattle.patterns.specs.Value.{valueOf}
 use Rattle.kinds.specs.Codes.{kindOf, roundingOf, rangeOf}
 use Rattle.kinds.specs.Row.{rowOf}
+use Rattle.kinds.specs.declared.Lookup.{Lookup}
 use Rattle.kinds.specs.declared.Outcome.{Outcome}
 use Rattle.kinds.specs.declared.Outcome.the-variants.{Stored, NanOrInf, OutOfRange, FloatOutOfRange}
 use Rattle.kinds.specs.declared.Answer.{Answer}
-use Rattle.mapping.specs.Map.{lookupOf}
-use Rattle.mapping.specs.declared.Lookup.{Lookup}
 use Rattle.cast_spec.specs.Element as E
-use Rattle.cast_spec.specs.Element.{outcomeOf}
+use Rattle.cast_spec.specs.Element.{lookupOf, outcomeOf}
 use Rattle.cast_spec.specs.Chunk.{width, entriesFrom, answerFrom, bytesFrom}
 use Rattle.element.specs.Convert.{classOf}
 use Rattle.chunk.specs.declared.Settings.{Settings}

@@ -11,9 +11,9 @@ use element::Class;
 use grid::RoundingMode;
 use kinds::Answer;
 use kinds::KindRow;
+use kinds::Lookup;
 use kinds::OutOfRangeMode;
 use kinds::Outcome;
-use mapping::Lookup;
 
 // What a call converts by: the class and the codes of the two kinds and their rows, the two rules, the bytes of a source and of a destination element, and the map's entries.
 pub struct Settings {

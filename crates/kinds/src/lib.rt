@@ -21,6 +21,12 @@ pub enum Outcome {
     FloatOutOfRange { value: u64, lo: u64, hi: u64 },
 }
 
+// What the map gives for an element: the target pattern of the first matching entry, or none.
+pub enum Lookup {
+    Found(u64),
+    Missing,
+}
+
 // What a chunk call answers: all converted, or one of the seven refusals in the order of their numbers.
 pub enum Answer {
     Converted,

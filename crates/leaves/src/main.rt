@@ -5,8 +5,8 @@ ghost use lib.ListN.{length};
 ghost use Rattle.integers.specs.Magnitude.{IntegerPattern};
 use floats::Class;
 use grid::RoundingMode;
+use kinds::Lookup;
 use libc::STDOUT_FILENO;
-use mapping::Lookup;
 
 fn text(s: &[u8]) {
     io::write_all(STDOUT_FILENO, s);

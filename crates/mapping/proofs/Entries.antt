@@ -1,35 +1,24 @@
 -- The lookup over the entries' bytes, one entry at a time.
 -- Assumes nothing.
-use mathlib.Core.Path.{_≡_, refl, sym, ap, ap₂, subst, _∙_}
+use mathlib.Core.Path.{_≡_, sym, ap, ap₂, subst, _∙_}
 use mathlib.Core.Bool.{Bool, true, false, cond}
-use mathlib.Core.List.{List, [], _∷_}
+use mathlib.Core.List.{List}
 use Prim.Native.Nat.{ℕ, suc, _+_, _-_, _*_, _^_, _≤_, _<_}
 use native.Mathlib.Nat.{mul-le-mul-right, sub-eq-zero-of-le}
 use native.Mathlib.Numerals.{add-one}
 use native.Mathlib.Omega.{arith}
 use lib.ListN.{length}
 use Rattle.bytes_le.specs.Bytes.{patternAt, Place}
-use Rattle.patterns.specs.Kind.{Kind, bits}
-use Rattle.patterns.specs.Value.{Value, valueOf}
-use Rattle.kinds.specs.declared.Outcome.{Outcome}
-use Rattle.kinds.specs.declared.Outcome.the-variants.{Stored}
+use Rattle.patterns.specs.Kind.{bits}
+use Rattle.patterns.specs.Value.{valueOf}
+use Rattle.kinds.specs.declared.Lookup.{Lookup}
+use Rattle.kinds.specs.declared.Lookup.the-variants.{Found, Missing}
 use Rattle.kinds.specs.Codes.{kindOf}
-use Rattle.cast_spec.specs.Element.{Entry, matches, mapped}
+use Rattle.cast_spec.specs.Element.{matches, lookupOf}
 use Rattle.cast_spec.specs.Chunk.{width, entriesFrom}
 use Rattle.cast_spec.proofs.Demand3.{kind-fits}
-use Rattle.mapping.specs.declared.Lookup.{Lookup}
-use Rattle.mapping.specs.declared.Lookup.the-variants.{Found, Missing}
-use Rattle.mapping.specs.Map.{lookupOf, foundOr, MapBytes}
+use Rattle.mapping.specs.Map.{MapBytes}
 use Rattle.mapping.proofs.Codes.{Width, Matched}
-
--- ---- the map step of one element is the lookup
-chosen : (t : Bool) (e : Entry) (o rest : Outcome) (l : Lookup) → rest ≡ foundOr l o → cond t (Stored (e .target)) rest ≡ foundOr (cond t (Found (e .target)) l) o
-chosen true e o rest l h = refl
-chosen false e o rest l h = h
-
-pub mapped-by-lookup : (k : Kind) (v : Value) (es : List Entry) (o : Outcome) → mapped k v es o ≡ foundOr (lookupOf k v es) o
-mapped-by-lookup k v [] o = refl
-mapped-by-lookup k v (e ∷ es) o = chosen (matches v (valueOf k (e .key))) e o (mapped k v es o) (lookupOf k v es) (mapped-by-lookup k v es o)
 
 place : (s : List ℕ) (w n j : ℕ) → Width w → length s ≡ n * w → j < n → Place s (j * w) w
 place s w n j width e h = record { width = width; within = omega (arith, mul-le-mul-right w h) }

@@ -1,30 +1,13 @@
--- The scalar map as a lookup, and what the functions over it ask of their inputs.
+-- What the functions over the scalar map ask of their inputs.
 -- Assumes nothing.
 use mathlib.Core.Path.{_≡_}
-use mathlib.Core.Bool.{cond}
-use mathlib.Core.List.{List, [], _∷_}
+use mathlib.Core.List.{List}
 use Prim.Native.Nat.{ℕ, _*_, _^_, _≤_, _<_}
 use lib.ListN.{length}
 use Rattle.bytes_le.specs.Bytes.{Width}
-use Rattle.patterns.specs.Kind.{Kind, bits}
-use Rattle.patterns.specs.Value.{Value, valueOf}
+use Rattle.patterns.specs.Kind.{bits}
 use Rattle.kinds.specs.Codes.{kindOf}
-use Rattle.kinds.specs.declared.Outcome.{Outcome}
-use Rattle.kinds.specs.declared.Outcome.the-variants.{Stored}
-use Rattle.cast_spec.specs.Element.{Entry, matches}
 use Rattle.cast_spec.specs.Chunk.{width}
-use Rattle.mapping.specs.declared.Lookup.{Lookup}
-use Rattle.mapping.specs.declared.Lookup.the-variants.{Found, Missing}
-
--- "The first matching entry wins. .. The target is handed out unchanged and is not range-checked."
-abbrev pub lookupOf : Kind → Value → List Entry → Lookup
-lookupOf k v [] = Missing
-lookupOf k v (e ∷ es) = cond (matches v (valueOf k (e .key))) (Found (e .target)) (lookupOf k v es)
-
--- what an element comes to, where o is the outcome of one that no entry matches
-abbrev pub foundOr : Lookup → Outcome → Outcome
-foundOr (Found t) o = Stored t
-foundOr Missing o = o
 
 -- two patterns of f32 or of f64, the kinds 8 and 9
 pub record FloatPatterns (a key code : ℕ) : Type 0 where

@@ -5,15 +5,10 @@ ghost use Rattle.bytes_le.specs.Bytes.{Place, patternAt};
 ghost use Rattle.patterns.specs.Kind.{f32, f64};
 ghost use Rattle.patterns.specs.Value.{valueOf};
 ghost use Rattle.kinds.specs.Codes.{kindOf};
-ghost use Rattle.cast_spec.specs.Element.{matches};
+ghost use Rattle.cast_spec.specs.Element.{matches, lookupOf};
 ghost use Rattle.cast_spec.specs.Chunk.{entriesFrom};
-ghost use Rattle.mapping.specs.Map.{FloatPatterns, FloatMap, IntegerMap, lookupOf};
-
-// What a lookup gives: the target pattern of the first matching entry, or none.
-pub enum Lookup {
-    Found(u64),
-    Missing,
-}
+ghost use Rattle.mapping.specs.Map.{FloatPatterns, FloatMap, IntegerMap};
+use kinds::Lookup;
 
 // Whether an f64 matches a key: equal patterns, two NaNs, or two zeros.
 pub fn matches_f64(a: u64, key: u64) -> bool

@@ -45,13 +45,13 @@ use denote.Triple.Statement.{Contract, Triple}
 use Rattle.patterns.specs.Kind.{Kind, bits}
 use Rattle.patterns.specs.Value.{valueOf}
 use Rattle.kinds.specs.declared.Answer.{Answer}
+use Rattle.kinds.specs.declared.Lookup.{Lookup}
 use Rattle.kinds.specs.Codes.{kindOf}
 use Rattle.kinds.proofs.Answer as R
 use Rattle.kinds.proofs.Answer.Laws as R′
-use Rattle.mapping.proofs.Lookup.Laws as F′
-use Rattle.mapping.specs.Map.{lookupOf}
-use Rattle.mapping.proofs.Lookup as F
-use Rattle.mapping.specs.declared.Lookup.{Lookup}
+use Rattle.kinds.proofs.Lookup as F
+use Rattle.kinds.proofs.Lookup.Laws as F′
+use Rattle.cast_spec.specs.Element.{lookupOf}
 use Rattle.typed_entries.proofs.Lookups.{EntryType}
 use Rattle.typed.proofs.State.Laws as S′
 use Rattle.typed.proofs.State as S

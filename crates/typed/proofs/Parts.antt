@@ -13,8 +13,8 @@ use Rattle.kinds.specs.declared.Outcome.{Outcome}
 use Rattle.kinds.specs.declared.Outcome.the-variants.{Stored, NanOrInf, OutOfRange, FloatOutOfRange}
 use Rattle.kinds.specs.Codes.{kindOf, roundingOf, rangeOf}
 use Rattle.kinds.specs.declared.Answer.the-variants as A
-use Rattle.mapping.specs.declared.Lookup.the-variants.{Missing}
-use Rattle.mapping.specs.declared.Lookup.{Lookup}
+use Rattle.kinds.specs.declared.Lookup.the-variants.{Missing}
+use Rattle.kinds.specs.declared.Lookup.{Lookup}
 use Rattle.element.specs.Convert.{unmapped}
 use Rattle.cast_spec.specs.Chunk.{answerNext, Refuses}
 use Rattle.typed.specs.declared.State.{State}

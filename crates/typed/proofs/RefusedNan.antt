@@ -3,7 +3,7 @@
 use mathlib.Core.Bool.{Bool, true, false, cond}
 use mathlib.Core.Path.{_≡_, refl, sym, ap, subst, _∙_}
 use mathlib.Core.Logic.{_⊎_, inl, inr}
-use mathlib.Core.List.{List, [], _∷_, map}
+use mathlib.Core.List.{List, map}
 use Prim.Native.Nat.{ℕ, zero, suc, _+_, _/_, _<_}
 use native.Mathlib.Nat.{zero-add}
 use native.Mathlib.Omega.{arith}
@@ -21,11 +21,13 @@ use Rattle.patterns.proofs.Ieee.{kindFor}
 use Rattle.kinds.specs.Codes.{kindOf}
 use Rattle.kinds.specs.declared.OutOfRangeMode.{OutOfRangeMode}
 use Rattle.kinds.specs.declared.OutOfRangeMode.the-variants.{None, Clamp, Wrap}
+use Rattle.kinds.specs.declared.Lookup.{Lookup}
+use Rattle.kinds.specs.declared.Lookup.the-variants.{Found, Missing}
 use Rattle.kinds.specs.declared.Outcome.{Outcome}
 use Rattle.kinds.specs.declared.Outcome.the-variants.{Stored, NanOrInf, OutOfRange, FloatOutOfRange}
 use Rattle.kinds.specs.declared.Answer.{Answer}
 use Rattle.kinds.specs.declared.Answer.the-variants as A
-use Rattle.cast_spec.specs.Element.{Entry, Settings, matches, mapped, inRange, beyond, converted, outcomeOf}
+use Rattle.cast_spec.specs.Element.{Settings, lookupOf, foundOr, inRange, beyond, converted, outcomeOf}
 use Rattle.cast_spec.specs.Chunk.{Inputs, sw, dw, codesListed, mapWhole, bytesWhole, countsMeet, callOf, outcomeAt, answerNext, answerFrom, answerOf}
 use Rattle.typed_values.specs.Bits.{floatBits, i64Bits}
 use Rattle.patterns.proofs.Integers.{no-integer-nan}
@@ -64,17 +66,13 @@ module _ (S : Settings) (b v : ℕ) where
   of-value (binary p w s) (inf neg) h e = absurd (stored-apart e)
   of-value (binary p w s) nan h e = absurd (stored-apart e)
 
-  unmatched : (u : Value) (es : List Entry) (o : Outcome) → mapped (S .from) u es o ≡ NanOrInf v → o ≡ NanOrInf v
-  unmatched u [] o h = h
-  unmatched u (e ∷ es) o h = go (matches u (valueOf (S .from) (e .key))) (unmatched u es o) h
-    where
-      go : (t : Bool) → (mapped (S .from) u es o ≡ NanOrInf v → o ≡ NanOrInf v) → cond t (Stored (e .target)) (mapped (S .from) u es o) ≡ NanOrInf v → o ≡ NanOrInf v
-      go true rest h = absurd (stored-apart h)
-      go false rest h = rest h
+  unmatched : (l : Lookup) (o : Outcome) → foundOr l o ≡ NanOrInf v → o ≡ NanOrInf v
+  unmatched (Found t) o h = absurd (stored-apart h)
+  unmatched Missing o h = h
 
   refused : outcomeOf S b ≡ NanOrInf v → OfNanOrInf (S .from) b v
   unfolding outcomeOf
-  refused h = of-value (S .to) (valueOf (S .from) b) refl (unmatched (valueOf (S .from) b) (S .entries) (converted S b (S .to) (valueOf (S .from) b)) h)
+  refused h = of-value (S .to) (valueOf (S .from) b) refl (unmatched (lookupOf (S .from) (valueOf (S .from) b) (S .entries)) (converted S b (S .to) (valueOf (S .from) b)) h)
 
 -- ---- the answer tells an element's refusal
 told : (o : ℕ → Outcome) (n a i v : ℕ) → answerFrom o a n ≡ A.NanOrInf i v → (i < a + n) × (o i ≡ NanOrInf v)

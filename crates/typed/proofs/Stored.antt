@@ -22,9 +22,10 @@ use Rattle.patterns.specs.Value.{Value, nan, inf, num, negative, valueOf}
 use Rattle.patterns.proofs.AnyKind.{sound, sign-of, pick-sign, pattern-back, pattern-fits}
 use Rattle.kinds.specs.declared.OutOfRangeMode.{OutOfRangeMode}
 use Rattle.kinds.specs.declared.OutOfRangeMode.the-variants.{None, Clamp, Wrap}
+use Rattle.kinds.specs.declared.Lookup.the-variants.{Found}
 use Rattle.kinds.specs.declared.Outcome.{Outcome}
 use Rattle.kinds.specs.declared.Outcome.the-variants.{Stored, NanOrInf, OutOfRange, FloatOutOfRange}
-use Rattle.cast_spec.specs.Element.{Entry, Settings, matches, mapped, ranged, beyond, converted, outcomeOf}
+use Rattle.cast_spec.specs.Element.{Entry, Settings, matches, lookupOf, foundOr, ranged, beyond, converted, outcomeOf}
 use Rattle.typed_values.specs.Bits.{f32Bits, f32Of}
 use Rattle.typed_values.proofs.Nans.{Back, not-nan}
 
@@ -42,11 +43,11 @@ Good (OutOfRange v lo hi) = Unit {0}
 Good (FloatOutOfRange v lo hi) = Unit {0}
 
 -- ---- the steps
-mapped-good : {Z : Type 0} (of : Z → Entry) → ((z : Z) → Back (of z .target)) → (k : Kind) (v : Value) (zs : List Z) (o : Outcome) → Good o → Good (mapped k v (map of zs) o)
-mapped-good of h k v [] o g = g
-mapped-good of h k v (z ∷ zs) o g = go (matches v (valueOf k (of z .key))) (mapped-good of h k v zs o g)
+found-good : {Z : Type 0} (of : Z → Entry) → ((z : Z) → Back (of z .target)) → (k : Kind) (v : Value) (zs : List Z) (o : Outcome) → Good o → Good (foundOr (lookupOf k v (map of zs)) o)
+found-good of h k v [] o g = g
+found-good of h k v (z ∷ zs) o g = go (matches v (valueOf k (of z .key))) (found-good of h k v zs o g)
   where
-    go : (t : Bool) → Good (mapped k v (map of zs) o) → Good (cond t (Stored (of z .target)) (mapped k v (map of zs) o))
+    go : (t : Bool) → Good (foundOr (lookupOf k v (map of zs)) o) → Good (foundOr (cond t (Found (of z .target)) (lookupOf k v (map of zs))) o)
     go true r = h z
     go false r = r
 
@@ -82,5 +83,5 @@ pub stored-back : {Z : Type 0} (of : Z → Entry) → ((z : Z) → Back (of z .t
 unfolding outcomeOf
 stored-back of h zs S to es x b q e =
     let v = valueOf (S .from) x in
-    subst Good (ap (λ (k : Kind). mapped (S .from) v (map of zs) (converted S x k v)) (sym to) ∙ ap (λ (l : List Entry). mapped (S .from) v l (converted S x (S .to) v)) (sym es) ∙ e)
-    (mapped-good of h (S .from) v zs (converted S x f32 v) (converted-good S x q v refl))
+    subst Good (ap (λ (k : Kind). foundOr (lookupOf (S .from) v (map of zs)) (converted S x k v)) (sym to) ∙ ap (λ (l : List Entry). foundOr (lookupOf (S .from) v l) (converted S x (S .to) v)) (sym es) ∙ e)
+    (found-good of h (S .from) v zs (converted S x f32 v) (converted-good S x q v refl))

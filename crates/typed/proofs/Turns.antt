@@ -14,17 +14,15 @@ use Rattle.bytes_le.specs.Bytes.{toLe}
 use Rattle.patterns.specs.Kind.{bits}
 use Rattle.patterns.specs.Value.{valueOf}
 use Rattle.kinds.specs.declared.Answer.{Answer}
+use Rattle.kinds.specs.declared.Lookup.{Lookup}
 use Rattle.kinds.specs.declared.Outcome.{Outcome}
 use Rattle.kinds.specs.declared.Outcome.the-variants.{Stored, NanOrInf, OutOfRange, FloatOutOfRange}
 use Rattle.kinds.specs.Codes.{kindOf, roundingOf, rangeOf}
 use Rattle.kinds.specs.declared.Answer.the-variants as A
-use Rattle.mapping.proofs.Entries.{mapped-by-lookup}
-use Rattle.mapping.specs.Map.{lookupOf, foundOr}
-use Rattle.mapping.specs.declared.Lookup.{Lookup}
 use Rattle.cast_spec.specs.Demand3.{Contract}
 use Rattle.cast_spec.proofs.Steps.{no-map}
 use Rattle.cast_spec.proofs.Demand3.{contract, kind-fits, answer-is, destination-is}
-use Rattle.cast_spec.specs.Element.{Entry, Settings, converted, outcomeOf}
+use Rattle.cast_spec.specs.Element.{Entry, Settings, lookupOf, foundOr, outcomeOf}
 use Rattle.cast_spec.specs.Chunk.{Inputs, width, settingsOf, codesListed, mapWhole, bytesWhole, callOf, outcomeAt, answerNext, answerFrom, answerOf, bytesFrom, destinationOf, entriesFrom, Refuses}
 use Rattle.chunk.proofs.Runs.{Run, done, refused, kept}
 use Rattle.chunk.proofs.Exits.{width-pos, unknown, mismatch}
@@ -82,10 +80,7 @@ module _ {X Y Z : Type 0} (P : Elements X Y Z) (xs : List X) (ys : List Z) (roun
   -- what the program has of an element is what its steps come to
   pub outcome-is : (x : ℕ) (f : Lookup) → f ≡ lookupOf (kindOf from) (valueOf (kindOf from) x) es → outcomeFor from to x f rounding range ≡ outcomeOf S x
   unfolding outcomeOf
-  outcome-is x f e =
-      let v = valueOf (kindOf from) x in
-      ap₂ foundOr e (no-map (kindOf from) (kindOf to) (roundingOf rounding) (rangeOf range) es x (kindOf to) v)
-      ∙ sym (mapped-by-lookup (kindOf from) v es (converted S x (kindOf to) v))
+  outcome-is x f e = ap₂ foundOr e (no-map (kindOf from) (kindOf to) (roundingOf rounding) (rangeOf range) es x (kindOf to) (valueOf (kindOf from) x))
 
   abbrev v : ℕ
   v = width (kindOf from)

@@ -6,13 +6,13 @@ use Prim.Native.Nat.{ℕ, _+_}
 use lib.Dec.{ltb, eqb}
 use lib.ListN.{length, getD, set}
 use Rattle.kinds.specs.Codes.{kindOf, roundingOf, rangeOf}
+use Rattle.kinds.specs.declared.Lookup.{Lookup}
 use Rattle.kinds.specs.declared.Outcome.{Outcome}
 use Rattle.kinds.specs.declared.Outcome.the-variants.{Stored, NanOrInf, OutOfRange, FloatOutOfRange}
 use Rattle.kinds.specs.declared.Answer.{Answer}
 use Rattle.kinds.specs.declared.Answer.the-variants as A
 use Rattle.element.specs.Convert.{unmapped}
-use Rattle.mapping.specs.declared.Lookup.{Lookup}
-use Rattle.mapping.specs.Map.{foundOr}
+use Rattle.cast_spec.specs.Element.{foundOr}
 use Rattle.cast_spec.specs.Chunk.{answerNext}
 use Rattle.typed.specs.declared.State.{State}
 

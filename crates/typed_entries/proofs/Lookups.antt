@@ -52,13 +52,12 @@ use denote.Struct.Declared.{Declared, row, fields}
 use denote.Index.{place-is, elem-out, elem-back, looks-slice, shuts-slice}
 use Rattle.patterns.specs.Kind.{Kind, bits}
 use Rattle.patterns.specs.Value.{valueOf}
-use Rattle.mapping.specs.declared.Lookup.the-variants.{Found, Missing}
-use Rattle.mapping.proofs.Lookup.Laws as F′
-use Rattle.mapping.specs.Map.{lookupOf}
-use Rattle.mapping.proofs.Lookup as F
-use Rattle.mapping.specs.declared.Lookup.{Lookup}
+use Rattle.kinds.specs.declared.Lookup.{Lookup}
+use Rattle.kinds.specs.declared.Lookup.the-variants.{Found, Missing}
+use Rattle.kinds.proofs.Lookup as F
+use Rattle.kinds.proofs.Lookup.Laws as F′
 use Rattle.cast_spec.specs.Element as E
-use Rattle.cast_spec.specs.Element.{matches}
+use Rattle.cast_spec.specs.Element.{matches, lookupOf}
 
 -- ---- an entry's type with its laws; an entry's patterns; the source kind. `none` stands past the end of a slice
 pub record EntryType : Type 2 where

@@ -1,7 +1,7 @@
 -- `typed::outcome_f64_to_f32` meets its contract: what an entry has, or what the conversion gives.
 -- Assumes nothing.
 use mathlib.Core.Path.{sym, ap, _∙_}
-use Rattle.mapping.specs.declared.Lookup.{Lookup}
+use Rattle.kinds.specs.declared.Lookup.{Lookup}
 use Rattle.typed.specs.Loop.{outcomeFor}
 use Rattle.typed.proofs.Parts.{unmatched}
 use borrow.Author.Needs.{needs}

@@ -1,7 +1,7 @@
 -- `typed::outcome_float_to_int` meets its contract: what an entry has, or what the conversion gives.
 -- Assumes nothing.
 use mathlib.Core.Path.{sym, ap, _∙_}
-use Rattle.mapping.specs.declared.Lookup.{Lookup}
+use Rattle.kinds.specs.declared.Lookup.{Lookup}
 use Rattle.typed.specs.Loop.{outcomeFor}
 use Rattle.typed.proofs.Parts.{unmatched}
 use Rattle.patterns.specs.Kind.{Kind}
