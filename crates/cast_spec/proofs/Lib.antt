@@ -5,6 +5,7 @@ pub mod Places
 pub mod Demand3
 pub mod Demand1
 pub mod Strength
+pub mod Samples
 pub mod Witness
 pub mod Sentences
 pub mod NanBits

@@ -23,7 +23,7 @@ use Rattle.patterns.specs.Pattern.{patternOf}
 use Rattle.cast_spec.specs.Chunk.{Call, settingsOf, callOf, outcomeAt, Refuses}
 use Rattle.cast_spec.specs.Demand3.{Reached, Taken, RefusedBy, Kept, Congruent, Handled, _≤ᵉ_, Demand3}
 use Rattle.kinds.specs.declared.Answer.{Answer}
-use Rattle.cast_spec.specs.Samples.{mixed}
+use Rattle.cast_spec.proofs.Samples.{mixed}
 use Rattle.cast_spec.proofs.Strength.{one-number}
 
 -- 2.5, NaN, -0, 300, 100 to u8, with NaN mapped to 9 and 0 to 7, under the range codes 0 none, 1 clamp, 2 wrap
