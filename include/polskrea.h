@@ -95,7 +95,7 @@ uint8_t polskrea_convert(const uint8_t *src, size_t src_len,
                          uint64_t answer[4]);
 
 /*
- * Typed entries: slices of numbers in place of bytes, and one slice of map entries. Same steps, same numbers, same four words as
+ * Typed calls: slices of numbers in place of bytes, and one slice of map entries. Same steps, same numbers, same four words as
  * polskrea_convert on the elements' bytes. Every length counts ELEMENTS. They cannot answer 2 or 3. They stand in libpolskrea_typed.a.
  *
  * A NaN's own bits play no part: as the value of refusal 5 every NaN is 0x7ff8000000000000, and which NaN pattern a NaN in `dst` has is free.

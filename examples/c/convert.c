@@ -1,4 +1,4 @@
-/* Converts 2.5 and 300 from f64 to u8, first with no range choice and then clamped, and by the typed entries, and prints each answer. */
+/* Converts 2.5 and 300 from f64 to u8, first with no range choice and then clamped, and by the typed calls, and prints each answer. */
 #include <inttypes.h>
 #include <stdio.h>
 #include <string.h>
@@ -78,7 +78,7 @@ int main(void)
                               POLSKREA_F64, POLSKREA_F32, POLSKREA_NEAREST_EVEN, POLSKREA_NONE, answer);
     show("1e300 to f32", number, answer, single, sizeof single);
 
-    /* the same elements through the typed entry, with a typed map */
+    /* the same elements through the typed call, with a typed map */
     const polskrea_entry_f64_u8 entries[1] = {{300.0, 7}};
     dst[0] = dst[1] = 0xee;
     number = polskrea_convert_f64_to_u8(src, 2, dst, 2, NULL, 0, POLSKREA_NEAREST_EVEN, POLSKREA_NONE, answer);

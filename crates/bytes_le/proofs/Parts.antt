@@ -1,5 +1,4 @@
 -- The w bytes at a place a of a chunk, as a part that is lent and comes back.
--- Assumes nothing.
 use mathlib.Core.Path.{_≡_, sym, ap, subst, _∙_}
 use mathlib.Core.Logic.{_⊎_, ⊎-elim}
 use mathlib.Core.List.{List, _++_}

@@ -1,5 +1,4 @@
 -- What stands at a position of a chunk, after bytes were put in front.
--- Assumes nothing.
 use mathlib.Core.Path.{_≡_, ap, _∙_}
 use mathlib.Core.List.{List, _++_}
 use Prim.Native.Nat.{ℕ, suc, _+_, _*_, _%_, _^_}

@@ -1,5 +1,4 @@
--- Numbers as bytes, "each element lowest byte first".
--- Assumes nothing.
+-- To be believed: numbers as bytes, "each element lowest byte first".
 use mathlib.Core.Path.{_≡_}
 use mathlib.Core.Logic.{_⊎_}
 use mathlib.Core.List.{List, [], _∷_, _++_}

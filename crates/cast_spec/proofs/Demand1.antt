@@ -1,5 +1,4 @@
 -- Demand 1 holds of the answer and the destination that the definitions give, so of every call that meets the contract.
--- Assumes nothing.
 use mathlib.Core.Path.{_≡_, refl, ap, _∙_, sym, subst}
 use mathlib.Core.Logic.{⊎-elim, inl, inr, _⊎_}
 use mathlib.Core.Bool.{Bool, true, false, cond, _&&_}
@@ -141,7 +140,7 @@ module _ (I : Inputs) where
     place : (i : ℕ) → i < n → (5 ≤ numberOf (answerOf I) → i < positionOf (answerOf I)) → ConvertedTo I (destinationOf I) i
     place i l h =
         let s = stored o (dw I) 0 n i (I .destination) l (λ m. subst (λ (z : ℕ). z < positionOf (answerFrom o 0 n)) (sym (zero-add i)) (subst (λ (r : Answer). i < positionOf r) (answer-is I t) (h (subst (λ (r : Answer). 5 ≤ numberOf r) (sym (answer-is I t)) m)))) in
-        record { pattern = s .0; outcome = ap o (sym (zero-add i)) ∙ s .1; held = ap (λ (d : List ℕ). patternAt (dw I) d i) (destination-is I t) ∙ s .2 }
+        record { pattern = s .0; outcome = ap o (sym (zero-add i)) ∙ s .1; stored = ap (λ (d : List ℕ). patternAt (dw I) d i) (destination-is I t) ∙ s .2 }
 
     rest : 5 ≤ numberOf (answerOf I) → drop (positionOf (answerOf I) * dw I) (destinationOf I) ≡ drop (positionOf (answerOf I) * dw I) (I .destination)
     rest h =

@@ -1,24 +1,23 @@
 -- Demand 3 holds of the answer and the destination that the definitions give, whatever the inputs are.
--- Assumes nothing.
-use mathlib.Core.Path.{_≡_, refl, sym, ap, subst, _∙_}
+use mathlib.Core.Path.{_≡_, refl, sym, subst}
 use mathlib.Core.Bool.{Bool, true, false, _&&_, cond}
 use mathlib.Core.List.{List}
-use Prim.Native.Nat.{ℕ, zero, suc, _-_, _*_, _/_, _^_, _<_}
-use native.Mathlib.Nat.{mul-pos, mul-div-right, pow-suc, zero-add}
-use native.Mathlib.Omega.{arith}
+use Prim.Native.Nat.{ℕ, _-_, _*_, _^_, _<_}
+use native.Mathlib.Nat.{mul-pos, zero-add}
 use lib.Dec.{T, ltb, eqb, lit<, lit≤}
 use lib.IntN.{ℤ}
-use lib.Pow.{pow-pos, pow-add}
-use Rattle.patterns.specs.Kind.{Kind, integer, binary, bits, WellFormed}
+use lib.Pow.{pow-pos}
+use Rattle.patterns.specs.Kind.{Kind, integer, binary, WellFormed}
 use Rattle.kinds.specs.Codes.{kindOf}
 use Rattle.patterns.specs.Value.{Value, valueOf}
-use Rattle.cast_spec.specs.Chunk.{Inputs, Call, width, dw, settingsOf, codesListed, mapWhole, bytesWhole, countsMeet, callOf, outcomeAt, answerFrom, answerOf, bytesFrom, destinationOf, resultAt}
+use Rattle.cast_spec.specs.Chunk.{Inputs, Call, dw, settingsOf, codesListed, mapWhole, bytesWhole, countsMeet, callOf, outcomeAt, answerFrom, answerOf, bytesFrom, destinationOf, resultAt}
 use Rattle.bytes_le.specs.Bytes.{patternAt}
 use Rattle.cast_spec.specs.Demand3.{Reached, Taken, Rounded, Demand3, Contract}
 use Rattle.kinds.specs.declared.Answer.{Answer}
 use Rattle.cast_spec.proofs.Each.{Served, each-of}
 use Rattle.cast_spec.proofs.Places.{served}
 use Rattle.cast_spec.proofs.Order.{order-of}
+use Rattle.cast_spec.proofs.Widths.{kind-fits}
 
 -- ---- any call whose answer and places are as the outcomes say, whatever its route
 pub demand3-of : (c : Call) (r : Answer) (res : ℕ → Value) → WellFormed (c .settings .to) → ((i : ℕ) → Reached c i → Served (c .settings .to) r (res i) i (outcomeAt c i)) → Demand3 c r res
@@ -28,16 +27,6 @@ demand3-of c r res ok f = record { each = each; order = order-of c r res each }
     each i x t = each-of c r (res i) i x ok t (f i (t .reached))
 
 -- ---- the ten kinds are as the laws ask
-bytes-bits : (m : ℕ) → 256 ^ m ≡ 2 ^ (8 * m)
-bytes-bits zero = refl
-bytes-bits (suc m) = pow-suc 256 m ∙ ap (λ (z : ℕ). z * 256) (bytes-bits m) ∙ sym (pow-add 2 (8 * m) 8) ∙ ap (λ (z : ℕ). 2 ^ z) (omega arith)
-
-int-fit : (m : ℕ) → 256 ^ (8 * m / 8) ≡ 2 ^ (8 * m)
-int-fit m = ap (λ (z : ℕ). 256 ^ z) (mul-div-right m (lit< tt)) ∙ bytes-bits m
-
-abbrev Fits : Kind → Type 0
-Fits k = 256 ^ width k ≡ 2 ^ bits k
-
 pub good : (c : ℕ) → WellFormed (kindOf c)
 good c = go (ltb c 4) (ltb c 8) (eqb c 8)
   where
@@ -46,15 +35,6 @@ good c = go (ltb c 4) (ltb c 8) (eqb c 8)
     go false true z = mul-pos (lit< tt) (pow-pos (c - 4))
     go false false true = (lit≤ tt, lit< tt)
     go false false false = (lit≤ tt, lit< tt)
-
-pub kind-fits : (c : ℕ) → Fits (kindOf c)
-kind-fits c = go (ltb c 4) (ltb c 8) (eqb c 8)
-  where
-    go : (x y z : Bool) → Fits (cond x (integer true (8 * 2 ^ c)) (cond y (integer false (8 * 2 ^ (c - 4))) (cond z (binary 24 8 925) (binary 53 11 0))))
-    go true y z = int-fit (2 ^ c)
-    go false true z = int-fit (2 ^ (c - 4))
-    go false false true = refl
-    go false false false = refl
 
 -- ---- the checks pass
 passes : (a b c d : Bool) (x p q r s : Answer) → T (a && b && c && d) → cond a (cond b (cond c (cond d x p) q) r) s ≡ x

@@ -1,5 +1,4 @@
 -- What is said of each element, from the answer and the place that its outcome gives it.
--- Assumes nothing.
 use mathlib.Core.Path.{_≡_, refl, sym, ap, subst, _∙_}
 use mathlib.Core.Bool.{Bool, true, false, cond}
 use Prim.Native.Nat.{ℕ, _^_, _<_}
@@ -24,7 +23,7 @@ use Rattle.kinds.specs.declared.Answer.{Answer}
 use Rattle.patterns.proofs.AnyKind.{sound, sign-of, pick-sign, int-back, int-fits, pattern-back, pattern-fits, lowest-in, unit-pos, multiple, ends-meet, high-on, low-on}
 use Rattle.cast_spec.proofs.Steps.{outcome-is, by-range}
 use Rattle.patterns.proofs.Floats.{inf-back, inf-fits}
-use Rattle.patterns.proofs.Integers.{value-held, valueIn, wrapped}
+use Rattle.patterns.proofs.Integers.{value-in-range, valueIn, wrapped}
 use Rattle.patterns.proofs.Integers as integers
 use Rattle.patterns.proofs.Floats as floats
 
@@ -63,11 +62,11 @@ unfolding valueOf patternOf highest
 congruent s n neg v y ok on e =
     let m = multiple y on in
     let b = patternOf (integer s n) neg y in
-    let h = integers.value-held s n (2 ^ 1074) ok unit-pos b (int-fits s n neg y ok) in
+    let h = integers.value-in-range s n (2 ^ 1074) ok unit-pos b (int-fits s n neg y ok) in
     let t = integers.wrapped s n (2 ^ 1074) ok unit-pos y (m .0) (m .1) in record {
       z = integers.valueIn s n (2 ^ 1074) b;
-      is = e;
-      held = (subst (λ (z : ℤ). z ≤ℤ integers.valueIn s n (2 ^ 1074) b) (sym (lowest-in s n)) (h .0), h .1);
+      value = e;
+      in-range = (subst (λ (z : ℤ). z ≤ℤ integers.valueIn s n (2 ^ 1074) b) (sym (lowest-in s n)) (h .0), h .1);
       turns = t .0;
       apart = t .1;
     }

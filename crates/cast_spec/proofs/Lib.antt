@@ -2,7 +2,10 @@ pub mod Order
 pub mod Steps
 pub mod Each
 pub mod Places
+pub mod Widths
 pub mod Demand3
+pub mod Refusals
+pub mod Runs
 pub mod Demand1
 pub mod Strength
 pub mod Samples

@@ -1,5 +1,4 @@
 -- A NaN's own bits decide nothing but which NaN comes out.
--- Assumes nothing.
 use mathlib.Core.Path.{_≡_, refl, sym, ap, ap₂, subst, _∙_}
 use mathlib.Core.Logic.{_⊎_, inl, inr}
 use mathlib.Core.Bool.{Bool, true, false, _&&_, cond}
@@ -34,7 +33,7 @@ use Rattle.cast_spec.specs.Element.{Entry, Settings, matches, lookupOf, 
 use Rattle.cast_spec.specs.Chunk.{Inputs, inputs, entriesFrom, sw, dw, settingsOf, codesListed, mapWhole, bytesWhole, countsMeet, callOf, outcomeAt, answerNext, answerFrom, answerOf, bytesNext, bytesFrom, destinationOf}
 use Rattle.cast_spec.specs.Demand3.{Contract}
 use Rattle.cast_spec.specs.NanBits.{Alike, AlikeBytes, AlikeInputs, SameAnswer, SameButNans}
-use Rattle.cast_spec.proofs.Demand3.{kind-fits}
+use Rattle.cast_spec.proofs.Widths.{kind-fits}
 use Rattle.cast_spec.proofs.Steps.{no-map}
 
 -- ---- a NaN is one by the bits below its sign

@@ -1,5 +1,4 @@
 -- The order of results follows from what is said of each element alone.
--- Assumes nothing.
 use mathlib.Core.Path.{_≡_, ap, subst}
 use mathlib.Core.Bool.{true, false}
 use Prim.Native.Nat.{ℕ, _≤_}

@@ -1,5 +1,4 @@
 -- The samples of document 01, the inputs that tell its false casts apart, and whole calls: tables, each proved by one theorem.
--- Assumes nothing.
 use mathlib.Core.Path.{_≡_, refl}
 use mathlib.Core.List.{List, [], _∷_, _++_, map}
 use Prim.Native.Nat.{ℕ, _+_, _-_, _^_}

@@ -1,5 +1,4 @@
 -- Sentences of the scope document that hold of the definitions.
--- Assumes nothing.
 use mathlib.Core.Path.{_≡_, refl, sym, ap, subst}
 use mathlib.Core.Logic.{_≢_}
 use mathlib.Core.Bool.{true}
@@ -36,13 +35,12 @@ nan-stays p w s p′ w′ s′ b ne two some = simp (ne-eqb p p′ ne) (floats.n
         less p h = omega arith
 
 -- "From an integer kind no float target of these two overruns": a magnitude of at most 2 ^ 64 has a pick of at most that
-pub no-overrun : (p w s : ℕ) → 2 ≤ p → s ≤ 64 + 1074 → 2 ^ (64 + 1074) ≤ bitsMag p s (infBits p w - 1) → (r : RoundingMode) (x : ℤ) → natAbs x ≤ 2 ^ (64 + 1074) → InRange (binary p w s) (pick (float p s) r x)
+pub no-overrun : (p s : ℕ) → 2 ≤ p → s ≤ 64 + 1074 → (p′ w′ s′ : ℕ) → 2 ^ (64 + 1074) ≤ bitsMag p′ s′ (infBits p′ w′ - 1) → (r : RoundingMode) (x : ℤ) → natAbs x ≤ 2 ^ (64 + 1074) → InRange (binary p′ w′ s′) (pick (float p s) r x)
 unfolding lowest highest
-no-overrun p w s two fine room r x h =
+no-overrun p s two fine p′ w′ s′ room r x h =
     let m = 2 ^ (64 + 1074) in
-    let on : OnMag (float p s) m = record { m = 1; e = 64 + 1074; is = (pow-mono {i = 1} {j = p} (omega arith), fine, refl) } in
-    let M = bitsMag p s (infBits p w - 1) in
-    inside m M x r (pick-own (float p s) two r (pos m) on) (pick-own (float p s) two r (negℤ (pos m)) (subst (λ (z : ℕ). OnMag (float p s) z) (sym (floats.abs-signed true m)) on)) room h
+    let on : OnMag (float p s) m = record { m = 1; e = 64 + 1074; written = (pow-mono {i = 1} {j = p} (omega arith), fine, refl) } in
+    inside m (bitsMag p′ s′ (infBits p′ w′ - 1)) x r (pick-own (float p s) two r (pos m) on) (pick-own (float p s) two r (negℤ (pos m)) (subst (λ (z : ℕ). OnMag (float p s) z) (sym (floats.abs-signed true m)) on)) room h
   where
     inside : (m M : ℕ) (x : ℤ) (r : RoundingMode) → pick (float p s) r (pos m) ≡ pos m → pick (float p s) r (negℤ (pos m)) ≡ negℤ (pos m) → m ≤ M → natAbs x ≤ m → (negℤ (pos M) ≤ℤ pick (float p s) r x) × (pick (float p s) r x ≤ℤ pos M)
     inside m M x r a b k h =

@@ -1,5 +1,4 @@
 -- What demand 3 settles: an element that is not refused has one result.
--- Assumes nothing.
 use mathlib.Core.Path.{_≡_, sym, ap, subst, _∙_}
 use mathlib.Core.Bool.{Bool, true, false}
 use Prim.Native.Nat.{ℕ, suc, _+_, _-_, _*_, _^_, _≤_, _<_}
@@ -68,11 +67,11 @@ spread false n u some unit z z′ l h =
 pub one-number : (s : Bool) (n : ℕ) (v v′ : Value) (y : ℤ) → 0 < n → Congruent (integer s n) v y → Congruent (integer s n) v′ y → v ≡ v′
 unfolding highest
 one-number s n v v′ y ok C D =
-    C .is
+    C .value
     ∙ ap num (one (2 ^ n * 2 ^ 1074) y (C .z) (D .z) (C .turns) (D .turns) (C .apart) (D .apart)
-    (spread s n (2 ^ 1074) ok unit-pos (D .z) (C .z) (subst (λ (z : ℤ). z ≤ℤ D .z) (lowest-in s n) (D .held .0)) (C .held .1))
-    (spread s n (2 ^ 1074) ok unit-pos (C .z) (D .z) (subst (λ (z : ℤ). z ≤ℤ C .z) (lowest-in s n) (C .held .0)) (D .held .1)))
-    ∙ sym (D .is)
+    (spread s n (2 ^ 1074) ok unit-pos (D .z) (C .z) (subst (λ (z : ℤ). z ≤ℤ D .z) (lowest-in s n) (D .in-range .0)) (C .in-range .1))
+    (spread s n (2 ^ 1074) ok unit-pos (C .z) (D .z) (subst (λ (z : ℤ). z ≤ℤ C .z) (lowest-in s n) (C .in-range .0)) (D .in-range .1)))
+    ∙ sym (D .value)
 
 -- ---- two accounts of one element that is not refused give it one result
 outside : (k : Kind) (y : ℤ) {C : Type 0} → (InRange k y → ⊥) → (y <ℤ lowest k → C) → (highest k <ℤ y → C) → C
@@ -88,15 +87,15 @@ handled-one S (binary p w s) Clamp r r′ v v′ i x y ok kept a b out h h′ = 
     (λ (l : highest (binary p w s) <ℤ y). let m = b (omega (ints, high-zero (binary p w s))) in h .2 m ∙ sym (h′ .2 m))
 handled-one S (binary p w s) Wrap r r′ v v′ i x y ok kept a b out h h′ = absurd (refused r i 7 (omega arith) h kept)
 
-held? : (k : Kind) (y : ℤ) {C : Type 0} → (InRange k y → C) → ((InRange k y → ⊥) → C) → C
-held? k y f g = split y (lowest k) (λ (l : y <ℤ lowest k). g (λ (h : InRange k y). omega (ints, h .0)))
+in-range? : (k : Kind) (y : ℤ) {C : Type 0} → (InRange k y → C) → ((InRange k y → ⊥) → C) → C
+in-range? k y f g = split y (lowest k) (λ (l : y <ℤ lowest k). g (λ (h : InRange k y). omega (ints, h .0)))
     (λ (l : lowest k ≤ℤ y). split (highest k) y (λ (m : highest k <ℤ y). g (λ (h : InRange k y). omega (ints, h .1))) (λ (m : y ≤ℤ highest k). f (l, m)))
 
 pub settled : (S : Settings) (r r′ : Answer) (v v′ : Value) (i : ℕ) (x : ℤ) → WellFormed (S .to) → Kept r i → Rounded S r v i x → Rounded S r′ v′ i x → v ≡ v′
 settled S r r′ v v′ i x ok kept A B =
     let k = S .to in
     let e : B .y ≡ A .y = unique (gridOf k) (S .rule) (B .pick) (A .pick) in
-    held? k (A .y)
+    in-range? k (A .y)
     (λ (h : InRange k (A .y)). A .result h .1 ∙ ap num (sym e) ∙ sym (B .result (subst (λ (z : ℤ). InRange k z) (sym e) h) .1))
     (λ n. handled-one S k (S .range) r r′ v v′ i x (A .y) ok kept (below-zero S x (A .y) (A .pick)) (above-zero S x (A .y) (A .pick)) n (A .past n)
     (subst (λ (z : ℤ). Handled k (S .range) r′ v′ i x z) e (B .past (λ h. n (subst (λ (z : ℤ). InRange k z) e h)))))

@@ -1,5 +1,4 @@
 -- Demand 3 is not met vacuously: in one mixed chunk an element is picked, one refused, clamped or wrapped, one mapped, and two are compared.
--- Assumes nothing.
 use mathlib.Core.Path.{_≡_, refl, ap, subst, _∙_}
 use mathlib.Core.Logic.{⊎-elim}
 use mathlib.Core.Bool.{false}
@@ -134,7 +133,7 @@ module _ (r : Answer) (res : ℕ → Value) where
   unfolding lowest highest
   must-wrap D =
       let h = past 2 (lit< tt) D in
-      let c : Congruent u8 (num (int 44)) (int 300) = record { z = int 44; is = refl; held = (leZ-yes tt, leZ-yes tt); turns = pos 1; apart = refl } in
+      let c : Congruent u8 (num (int 44)) (int 300) = record { z = int 44; value = refl; in-range = (leZ-yes tt, leZ-yes tt); turns = pos 1; apart = refl } in
       (h .0, one-number false 8 (res 3) (num (int 44)) (int 300) (lit< tt) (h .1) c)
 
   -- 2.5 and 300 are both converted under clamp, so the larger has not the smaller result

@@ -1,19 +1,17 @@
--- The chunk call over its inputs alone: the checks, the answer, and every byte of the destination.
--- Assumes nothing.
+-- To be believed: the chunk call over its inputs alone: the checks, the answer, and every byte of the destination.
 use mathlib.Core.Bool.{Bool, _&&_, cond}
 use mathlib.Core.List.{List, [], _∷_, _++_}
 use Prim.Native.Nat.{ℕ, zero, suc, _/_, _%_}
 use lib.Dec.{eqb, ltb}
 use lib.ListN.{length, drop}
 use Rattle.bytes_le.specs.Bytes.{toLe, patternAt}
-use Rattle.patterns.specs.Kind.{Kind, bits}
+use Rattle.patterns.specs.Kind.{width}
 use Rattle.patterns.specs.Value.{Value, valueOf}
 use Rattle.kinds.specs.Codes.{kindOf, roundingOf, rangeOf}
 use Rattle.kinds.specs.declared.Outcome.{Outcome}
 use Rattle.kinds.specs.declared.Outcome.the-variants.{Stored, NanOrInf, OutOfRange, FloatOutOfRange}
 use Rattle.kinds.specs.declared.Answer.{Answer}
 use Rattle.cast_spec.specs.Element.{Entry, Settings, outcomeOf}
-use Rattle.kinds.specs.declared.Answer.the-variants.{BrokenElement, BrokenMap, LengthMismatch, UnknownCode}
 use Rattle.kinds.specs.declared.Answer.the-variants as A
 
 -- "Source, destination, map keys (source kind) and map targets (target kind) are bytes", and four codes
@@ -29,10 +27,6 @@ pub record Inputs : Type 0 where
 
 abbrev pub inputs : List ℕ → List ℕ → List ℕ → List ℕ → ℕ → ℕ → ℕ → ℕ → Inputs
 inputs s d ks ts f t o g = record { source = s; destination = d; keys = ks; targets = ts; from = f; to = t; rounding = o; range = g }
-
--- the bytes of an element
-abbrev pub width : Kind → ℕ
-width k = bits k / 8
 
 -- n entries from the position j on, keys of sw bytes and targets of dw
 abbrev pub entriesFrom : ℕ → ℕ → List ℕ → List ℕ → ℕ → ℕ → List Entry

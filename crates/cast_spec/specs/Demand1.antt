@@ -1,5 +1,4 @@
--- Demand 1, over the inputs, the answer r and the destination d at exit.
--- Assumes nothing.
+-- To be believed: demand 1, over the inputs, the answer r and the destination d at exit.
 use mathlib.Core.Path.{_≡_}
 use mathlib.Core.List.{List}
 use Prim.Native.Nat.{ℕ, _*_, _%_, _^_, _≤_, _<_}
@@ -14,7 +13,7 @@ use Rattle.cast_spec.specs.Chunk.{Inputs, callOf, Refuses, outcomeAt, dw
 pub record ConvertedTo (I : Inputs) (d : List ℕ) (i : ℕ) : Type 0 where
   pub pattern : ℕ
   pub outcome : outcomeAt (callOf I) i ≡ Stored pattern
-  pub held : patternAt (dw I) d i ≡ pattern % 256 ^ dw I
+  pub stored : patternAt (dw I) d i ≡ pattern % 256 ^ dw I
 
 pub record Demand1 (I : Inputs) (r : Answer) (d : List ℕ) : Type 0 where
   -- "converted or refused by one of seven numbers"

@@ -1,5 +1,4 @@
--- Demand 3 as one claim about a call: its answer r, and res, the number at each place of the destination after it.
--- Assumes nothing.
+-- To be believed: demand 3 as one claim about a call: its answer r, and res, the number at each place of the destination after it.
 use mathlib.Core.Path.{_≡_}
 use mathlib.Core.Bool.{true, false, not}
 use mathlib.Core.List.{List, List·Memᴰ}
@@ -48,8 +47,8 @@ Kept r i = 5 ≤ numberOf r → positionOf r ≡ i → ⊥
 -- v is the "one number congruent to the pick modulo 2^N" of an integer kind
 pub record Congruent (k : Kind) (v : Value) (y : ℤ) : Type 0 where
   pub z : ℤ
-  pub is : v ≡ num z
-  pub held : InRange k z
+  pub value : v ≡ num z
+  pub in-range : InRange k z
   pub turns : ℤ
   pub apart : y ≡ z +ℤ turns *ℤ pos (2 ^ bits k * 2 ^ 1074)
 

@@ -1,5 +1,4 @@
--- One element: "Map; then, for a float going to an integer kind, refusal 5 if it is NaN or infinite; then rounding; then range."
--- Assumes nothing.
+-- To be believed: one element: "Map; then, for a float going to an integer kind, refusal 5 if it is NaN or infinite; then rounding; then range."
 use mathlib.Core.Bool.{Bool, true, false, _&&_, cond, Bool·beq}
 use mathlib.Core.List.{List, [], _∷_}
 use Prim.Native.Nat.{ℕ, _-_}

@@ -1,5 +1,4 @@
--- What a NaN's own bits decide: two calls whose elements and map are one but for the patterns of NaNs.
--- Assumes nothing.
+-- To be believed: what a NaN's own bits decide: two calls whose elements and map are one but for the patterns of NaNs.
 use mathlib.Core.Path.{_≡_}
 use mathlib.Core.Logic.{_⊎_}
 use mathlib.Core.List.{List}

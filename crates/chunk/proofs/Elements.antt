@@ -1,88 +1,132 @@
 -- One element with its map, and one place: what the parts of the call have in hand.
--- Assumes nothing.
-use mathlib.Core.Path.{_≡_, refl, sym, ap, subst, _∙_}
+use mathlib.Core.Path.{_≡_, refl, sym, ap, ap₂, subst, _∙_}
 use mathlib.Core.Logic.{⊎-elim}
+use mathlib.Core.Bool.{Bool}
 use mathlib.Core.List.{List, [], _∷_}
-use Prim.Native.Nat.{ℕ, _+_, _^_, _≤_, _<_}
+use Prim.Native.Nat.{ℕ, _+_, _*_, _^_, _≤_, _<_}
 use native.Mathlib.Nat.{le-of-eq, lt-of-lt-of-le}
 use native.Mathlib.Omega.{arith}
 use lib.ListN.{length}
-use Rattle.patterns.specs.Value.{valueOf}
-use Rattle.cast_spec.specs.Element.{lookupOf, foundOr, converted, outcomeOf}
-use Rattle.chunk.specs.declared.Settings.{Settings}
-use Rattle.kinds.specs.declared.Lookup.the-variants.{Found, Missing}
-use Rattle.kinds.proofs.Outcome.{the-type}
-use Rattle.patterns.specs.Kind.{bits}
-use Rattle.kinds.specs.declared.Lookup.{Lookup}
-use Rattle.mapping.specs.Map.{MapBytes}
-use Rattle.kinds.specs.declared.Outcome.{Outcome}
-use Rattle.bytes_le.specs.Bytes.{Place}
-use Rattle.chunk.specs.Run.{Ready, lookedUp, settingsFor, storedAt}
-use Rattle.kinds.specs.declared.Outcome.the-variants.{Stored, FloatOutOfRange, NanOrInf, OutOfRange}
-use Rattle.mapping.proofs.Codes.{Width, float-code-width, integer-code-width}
-use Rattle.grid.proofs.Neighbours.{cut}
-use Rattle.cast_spec.specs.Chunk.{entriesFrom, width, Refuses}
-use Rattle.kinds.specs.Codes.{kindOf}
-use Rattle.element.specs.Convert.{unmapped}
-use Rattle.cast_spec.proofs.Steps.{no-map}
-use Rattle.cast_spec.proofs.Demand3.{kind-fits}
 use denote.Enum.Declared.{tagOf}
 use types.Run.{OneOf}
-use Rattle.cast_spec.specs.Element as E
+use Rattle.bytes_le.specs.Bytes.{Place}
+use Rattle.patterns.specs.Kind.{Kind, bits, integer}
+use Rattle.patterns.specs.Value.{valueOf}
+use Rattle.patterns.specs.Pattern.{asF64}
+use Rattle.kinds.specs.Row.{kindIn, FormatRow}
+use Rattle.kinds.specs.declared.Format.{Format}
+use Rattle.kinds.specs.declared.Format.the-variants.{Integer, Float}
+use Rattle.kinds.specs.declared.IntegerFormat.{IntegerFormat}
+use Rattle.kinds.specs.declared.FloatFormat.{FloatFormat}
+use Rattle.kinds.specs.declared.Lookup.{Lookup}
+use Rattle.kinds.specs.declared.Lookup.the-variants.{Missing}
+use Rattle.kinds.specs.declared.Outcome.{Outcome}
+use Rattle.kinds.specs.declared.Outcome.the-variants.{Stored, NanOrInf, OutOfRange, FloatOutOfRange}
+use Rattle.kinds.specs.declared.Fit.{Fit}
+use Rattle.kinds.specs.declared.Fit.the-variants as F
+use Rattle.kinds.specs.declared.Answer.the-variants.{Converted}
+use Rattle.kinds.proofs.Fit.{the-type}
+use Rattle.cast_spec.specs.Element.{converted, foundOr, lookupOf, outcomeOf}
+use Rattle.cast_spec.specs.Chunk.{answerNext, entriesFrom, Refuses}
+use Rattle.cast_spec.proofs.Steps.{no-map}
+use Rattle.cast_spec.proofs.Widths.{byte-patterns}
+use Rattle.mapping.specs.Map.{MapBytes}
+use Rattle.narrowing.specs.Fit.{fitOf}
+use Rattle.element.specs.Convert.{FormatPattern, filled, stepped, unmapped}
+use Rattle.element.specs.Route.{RouteRow, routeOf, sourceOf, targetOf}
+use Rattle.element.proofs.Filled.{stepped-filled}
+use Rattle.chunk.specs.declared.Settings.{Settings}
+use Rattle.chunk.specs.Run.{MapReady, Ready, lookedUp, refusedAnswer, settingsFor, storedAt}
 
--- ---- widths
-pub listed-width : (code : ℕ) → code < 10 → Width (width (kindOf code))
-listed-width code h = cut code 8 (λ (l : code < 8). integer-code-width code l) (λ (l : 8 ≤ code). float-code-width code l h)
+-- ---- two formats that are rows of the table
+pub format-pattern : (f : Format) (b : ℕ) → FormatRow f → b < 2 ^ bits (kindIn f) → FormatPattern b f
+format-pattern (Integer f) b row h = record { positive = row .positive; at-most-64 = row .at-most-64; fits = h }
+format-pattern (Float f) b row h = record { row = row; fits = h }
 
-module _ (s : Settings) (keys targets : List ℕ) (ready : Ready s keys targets) where
+route-row : (s t : Format) → FormatRow s → FormatRow t → RouteRow (routeOf s t)
+route-row (Integer f) (Integer t) a b = (a, b)
+route-row (Integer f) (Float t) a b = (a, b)
+route-row (Float f) (Integer t) a b = (a, b)
+route-row (Float f) (Float t) a b = (a, b)
+
+source-kind : (s t : Format) → sourceOf (routeOf s t) ≡ kindIn s
+source-kind (Integer f) (Integer t) = refl
+source-kind (Integer f) (Float t) = refl
+source-kind (Float f) (Integer t) = refl
+source-kind (Float f) (Float t) = refl
+
+target-kind : (s t : Format) → targetOf (routeOf s t) ≡ kindIn t
+target-kind (Integer f) (Integer t) = refl
+target-kind (Integer f) (Float t) = refl
+target-kind (Float f) (Integer t) = refl
+target-kind (Float f) (Float t) = refl
+
+-- ---- the settings of a call
+module _ (s : Settings) (ready : Ready s) where
   pub source-place : (src : List ℕ) (a : ℕ) → a + s .sw ≤ length src → Place src a (s .sw)
-  source-place src a h = record { width = subst Width (sym (ready .source)) (listed-width (s .from) (ready .from)); within = h }
+  source-place src a h = record { width = ready .source-width; within = h }
 
   pub target-place : (dst : List ℕ) (d : ℕ) → d + s .dw ≤ length dst → Place dst d (s .dw)
-  target-place dst d h = record { width = subst Width (sym (ready .target)) (listed-width (s .to) (ready .to)); within = h }
+  target-place dst d h = record { width = ready .target-width; within = h }
 
   -- the pattern of a source element
-  pub pattern-fits : (b : ℕ) → b < 256 ^ s .sw → b < 2 ^ bits (kindOf (s .from))
-  pattern-fits b h = lt-of-lt-of-le h (le-of-eq (ap (λ (w : ℕ). 256 ^ w) (ready .source) ∙ kind-fits (s .from)))
+  pub pattern-fits : (b : ℕ) → b < 256 ^ s .sw → b < 2 ^ bits (kindIn (s .source))
+  pattern-fits b h = lt-of-lt-of-le h (le-of-eq (byte-patterns (s .sw) ∙ ap (λ (z : ℕ). 2 ^ z) (sym (ready .source-bits))))
 
-  -- ---- the map
-  module _ (b : ℕ) (small : b < 2 ^ bits (kindOf (s .from))) where
-    pub map-bytes : MapBytes b keys targets (s .entries) (s .from) (s .sw) (s .dw)
-    map-bytes = record {
-      fits = small;
-      key-width = ready .source;
-      target-width = subst Width (sym (ready .target)) (listed-width (s .to) (ready .to));
-      whole-keys = ready .keys-whole;
-      whole-targets = ready .targets-whole;
-    }
+  pub route-ready : RouteRow (s .route)
+  route-ready = subst RouteRow (sym (ready .route)) (route-row (s .source) (s .target) (ready .source-row) (ready .target-row))
 
-    pub no-entries : s .entries ≡ 0 → Missing ≡ lookedUp s keys targets b
-    no-entries e = ap (λ (n : ℕ). lookupOf (kindOf (s .from)) (valueOf (kindOf (s .from)) b) (entriesFrom (s .sw) (s .dw) keys targets 0 n)) (sym e)
+  from-is : sourceOf (s .route) ≡ kindIn (s .source)
+  from-is = ap sourceOf (ready .route) ∙ source-kind (s .source) (s .target)
 
-    by-lookup : (r : Lookup) → r ≡ lookedUp s keys targets b → foundOr r (converted (settingsFor s keys targets) b (kindOf (s .to)) (valueOf (kindOf (s .from)) b)) ≡ outcomeOf (settingsFor s keys targets) b
+  to-is : targetOf (s .route) ≡ kindIn (s .target)
+  to-is = ap targetOf (ready .route) ∙ target-kind (s .source) (s .target)
+
+  pub source-pattern : (b : ℕ) → b < 2 ^ bits (kindIn (s .source)) → b < 2 ^ bits (sourceOf (s .route))
+  source-pattern b = subst (λ (k : Kind). b < 2 ^ bits k) (sym from-is)
+
+  -- ---- the steps of an element are the definition's
+  module _ (keys targets : List ℕ) (b : ℕ) where
+    outcome-is : outcomeOf (settingsFor s keys targets) b ≡ foundOr (lookedUp s keys targets b) (unmapped (kindIn (s .source)) (kindIn (s .target)) (s .rounding) (s .range) b)
     unfolding outcomeOf
-    by-lookup r e = ap (λ (l : Lookup). foundOr l (converted (settingsFor s keys targets) b (kindOf (s .to)) (valueOf (kindOf (s .from)) b))) e
+    outcome-is = ap (foundOr (lookedUp s keys targets b)) (sym (no-map (kindIn (s .source)) (kindIn (s .target)) (s .rounding) (s .range) (settingsFor s keys targets .entries) b (kindIn (s .target)) (valueOf (kindIn (s .source)) b)))
 
-    pub found-outcome : (r : Lookup) (t : ℕ) → r ≡ lookedUp s keys targets b → r ≡ Found t → Stored t ≡ outcomeOf (settingsFor s keys targets) b
-    found-outcome r t e f = by-lookup (Found t) (sym f ∙ e)
+    pub steps-are : (found : Lookup) → found ≡ lookedUp s keys targets b → (r : Fit) → r ≡ stepped found (sourceOf (s .route)) (targetOf (s .route)) (s .rounding) (s .range) b → r ≡ fitOf (outcomeOf (settingsFor s keys targets) b)
+    steps-are found f r e =
+        e ∙ ap₂ (λ (j k : Kind). stepped found j k (s .rounding) (s .range) b) from-is to-is
+        ∙ ap (λ (l : Lookup). stepped l (kindIn (s .source)) (kindIn (s .target)) (s .rounding) (s .range) b) f
+        ∙ ap fitOf (sym outcome-is)
 
-    pub missing-outcome : (r : Lookup) (o : Outcome) → r ≡ lookedUp s keys targets b → r ≡ Missing → o ≡ unmapped (kindOf (s .from)) (kindOf (s .to)) (s .rounding) (s .range) b → o ≡ outcomeOf (settingsFor s keys targets) b
-    missing-outcome r o e f g =
-        g ∙ no-map (kindOf (s .from)) (kindOf (s .to)) (s .rounding) (s .range) (settingsFor s keys targets .entries) b (kindOf (s .to)) (valueOf (kindOf (s .from)) b)
-        ∙ by-lookup Missing (sym f ∙ e)
+    -- with the fields of a refusal
+    pub refused-is : (i : ℕ) (r : Fit) → r ≡ fitOf (outcomeOf (settingsFor s keys targets) b) → refusedAnswer s b i r ≡ answerNext (outcomeOf (settingsFor s keys targets) b) i Converted
+    refused-is i r e = ap (λ (o : Outcome). answerNext o i Converted)
+        (ap (filled (kindIn (s .target)) (asF64 (kindIn (s .source)) b)) (e ∙ ap fitOf outcome-is)
+        ∙ stepped-filled (lookedUp s keys targets b) (kindIn (s .source)) (kindIn (s .target)) (s .rounding) (s .range) b ∙ sym outcome-is)
 
--- ---- an outcome that is not `Stored`, as a program tells it: by the number of its variant
-pub refuses : (o : Outcome) → OneOf (1 ∷ 2 ∷ 3 ∷ []) (tagOf the-type o) → Refuses o
-refuses (Stored b) t = absurd (⊎-elim (λ (e : _≡_ {A = ℕ} 0 1). omega arith) (⊎-elim (λ (e : _≡_ {A = ℕ} 0 2). omega arith) (λ (e : _≡_ {A = ℕ} 0 3). omega arith)) t)
-refuses (NanOrInf v) t = tt
-refuses (OutOfRange v lo hi) t = tt
-refuses (FloatOutOfRange v lo hi) t = tt
+-- ---- the map
+module _ (s : Settings) (keys targets : List ℕ) (map : MapReady s keys targets) (b : ℕ) (fits : b < 2 ^ bits (kindIn (s .source))) where
+  pub map-bytes : (n : ℕ) → bits (kindIn (s .source)) ≡ n → MapBytes n b keys targets (s .entries) (s .sw) (s .dw)
+  map-bytes n e = record {
+    fits = subst (λ (z : ℕ). b < 2 ^ z) e fits;
+    key-bits = sym (map .ready .source-bits) ∙ e;
+    key-width = map .ready .source-width;
+    target-width = map .ready .target-width;
+    whole-keys = map .keys-whole;
+    whole-targets = map .targets-whole;
+  }
 
-pub not-stored : (o : Outcome) (dst : List ℕ) (d w : ℕ) → Refuses o → dst ≡ storedAt o dst d w
+  pub no-entries : s .entries ≡ 0 → Missing ≡ lookedUp s keys targets b
+  no-entries e = ap (λ (n : ℕ). lookupOf (kindIn (s .source)) (valueOf (kindIn (s .source)) b) (entriesFrom (s .sw) (s .dw) keys targets 0 n)) (sym e)
+
+  -- by a kind that the source's is
+  pub looked-up : (k : Kind) → k ≡ kindIn (s .source) → (r : Lookup) → r ≡ lookupOf k (valueOf k b) (settingsFor s keys targets .entries) → r ≡ lookedUp s keys targets b
+  looked-up k e r f = f ∙ ap (λ (j : Kind). lookupOf j (valueOf j b) (settingsFor s keys targets .entries)) e
+
+  pub integer-kind : (f : IntegerFormat) → s .source ≡ Integer f → integer (f .signed) (8 * s .sw) ≡ kindIn (s .source)
+  integer-kind f e = ap (integer (f .signed)) (sym (map .ready .source-bits) ∙ ap (λ (g : Format). bits (kindIn g)) e) ∙ ap kindIn (sym e)
+
+pub not-stored : (o : Outcome) (dst : List ℕ) (d w : ℕ) → Refuses o → dst ≡ storedAt (fitOf o) dst d w
 not-stored (Stored b) dst d w r = absurd r
 not-stored (NanOrInf v) dst d w r = refl
 not-stored (OutOfRange v lo hi) dst d w r = refl
 not-stored (FloatOutOfRange v lo hi) dst d w r = refl
-
-pub converted-outcome : (S : E.Settings) (o : Outcome) {x : ℕ} (b : ℕ) → o ≡ outcomeOf S b → b ≡ x → o ≡ outcomeOf S x
-converted-outcome S o b e f = e ∙ ap (outcomeOf S) f

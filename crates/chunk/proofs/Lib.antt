@@ -1,4 +1,3 @@
-pub mod Runs
 pub mod Elements
 pub mod Loop
 pub mod Exits

@@ -2,26 +2,28 @@
 ghost use mathlib.Core.Path.{_≡_};
 ghost use mathlib.Core.Bool.{_&&_};
 ghost use Prim.Native.Nat.{_/_, _%_, _<_};
-ghost use lib.Dec.{eqb, ltb};
+ghost use lib.Dec.{eqb};
+ghost use lib.ListN.{take, drop};
+ghost use Rattle.bytes_le.specs.Bytes.{fromLe};
 ghost use Rattle.cast_spec.specs.Element.{outcomeOf};
-ghost use Rattle.cast_spec.specs.Chunk.{inputs, answerNext};
+ghost use Rattle.cast_spec.specs.Chunk.{inputs};
 ghost use Rattle.cast_spec.specs.Demand3.{Contract};
-ghost use Rattle.chunk.specs.Run.{settingsFor, settingsBy, lookedUp, ElementIn, PlaceIn, ConvertedAt, RunIn, Ran};
-use element::Class;
+ghost use Rattle.narrowing.specs.Fit.{fitOf};
+ghost use Rattle.chunk.specs.Run.{settingsFor, settingsBy, lookedUp, ElementReady, PlaceReady, SourceReady, refusedAnswer, ConvertedAt, RunReady, Ran};
+use element::Route;
 use grid::RoundingMode;
 use kinds::Answer;
-use kinds::KindRow;
+use kinds::Fit;
+use kinds::Format;
 use kinds::Lookup;
 use kinds::OutOfRangeMode;
-use kinds::Outcome;
 
-// What a call converts by: the class and the codes of the two kinds and their rows, the two rules, the bytes of a source and of a destination element, and the map's entries.
+// What a call converts by: the formats of the two kinds and their route, the two rules, the bytes of a source and of a destination element, and the
+// map's entries.
 pub struct Settings {
-    pub class: Class,
-    pub from: u8,
-    pub to: u8,
-    pub source: KindRow,
-    pub target: KindRow,
+    pub source: Format,
+    pub target: Format,
+    pub route: Route,
     pub rounding: RoundingMode,
     pub range: OutOfRangeMode,
     pub sw: usize,
@@ -31,86 +33,64 @@ pub struct Settings {
 
 // The target of the first entry that matches an element.
 fn look_up(b: u64, keys: &[u8], targets: &[u8], s: Settings) -> Lookup
-    requires { ⌜ ElementIn b s (now keys) (now targets) ⌝ }
+    requires { ⌜ ElementReady b s (now keys) (now targets) ⌝ }
     ensures { λ r. ⌜ r ≡ lookedUp s (now (keys .entry)) (now (targets .entry)) b ⌝ }
 {
     if s.entries == 0 {
         return Lookup::Missing;
     }
-    if s.from < 8 {
-        return mapping::apply_scalar_map_int(b, keys, targets, s.entries, s.from, s.sw, s.dw);
+    let source = s.source;
+    match source {
+        Format::Integer(_) => {
+            mapping::apply_scalar_map_int(b, keys, targets, s.entries, s.sw, s.dw)
+        }
+        Format::Float(format) => {
+            mapping::apply_scalar_map_float(b, keys, targets, s.entries, format, s.sw, s.dw)
+        }
     }
-    mapping::apply_scalar_map_float(b, keys, targets, s.entries, s.from, s.sw, s.dw)
 }
 
 // One element's steps: the map, and the conversion of what it leaves.
-fn outcome(b: u64, keys: &[u8], targets: &[u8], s: Settings) -> Outcome
-    requires { ⌜ ElementIn b s (now keys) (now targets) ⌝ }
-    ensures { λ r. ⌜ r ≡ outcomeOf (settingsFor s (now (keys .entry)) (now (targets .entry))) b ⌝ }
+fn steps(b: u64, keys: &[u8], targets: &[u8], s: Settings) -> Fit
+    requires { ⌜ ElementReady b s (now keys) (now targets) ⌝ }
+    ensures { λ r. ⌜ r ≡ fitOf (outcomeOf (settingsFor s (now (keys .entry)) (now (targets .entry))) b) ⌝ }
 {
-    let class = s.class;
-    let source = s.source;
-    let target = s.target;
+    let route = s.route;
     let rounding = s.rounding;
     let range = s.range;
-    match look_up(b, keys, targets, s) {
-        Lookup::Found(pattern) => Outcome::Stored(pattern),
-        Lookup::Missing => element::convert_element(
-            b,
-            class,
-            s.from,
-            s.to,
-            source,
-            target,
-            rounding,
-            range,
-        ),
-    }
+    let found = look_up(b, keys, targets, s);
+    element::step(b, found, route, rounding, range)
 }
 
-// The element at a place of the source, stored at a place of the destination unless it is refused.
+// The element at the byte `input` of the source, stored at the byte `output` of the destination unless it is refused.
 fn convert_at(
     src: &[u8],
     dst: &mut [u8],
     keys: &[u8],
     targets: &[u8],
     s: Settings,
-    from: usize,
-    to: usize,
-) -> Outcome
-    requires { ⌜ PlaceIn s (now keys) (now targets) (now src) (now dst) from to ⌝ }
-    ensures { λ r. ⌜ ConvertedAt (settingsFor s (now (keys .entry)) (now (targets .entry))) (s .sw) (s .dw) (now (src .entry)) (now (dst .entry)) from to r (now (dst .exit)) ⌝ }
+    input: usize,
+    output: usize,
+) -> Fit
+    requires { ⌜ PlaceReady s (now keys) (now targets) (now src) (now dst) input output ⌝ }
+    ensures { λ r. ⌜ ConvertedAt (settingsFor s (now (keys .entry)) (now (targets .entry))) (s .sw) (s .dw) (now (src .entry)) (now (dst .entry)) input output r (now (dst .exit)) ⌝ }
 {
-    let o = outcome(bytes_le::read_le(src, from, s.sw), keys, targets, s);
-    if let Outcome::Stored(pattern) = o {
-        bytes_le::write_le(dst, to, s.dw, pattern);
+    let r = steps(bytes_le::read_le(src, input, s.sw), keys, targets, s);
+    if let Fit::Pattern(pattern) = r {
+        bytes_le::write_le(dst, output, s.dw, pattern);
     }
-    o
+    r
 }
 
-// The answer that a refusal of the element at a position is; `Converted` where the element was stored.
-pub fn refusal(position: usize, o: Outcome) -> Answer
-    ensures { λ r. ⌜ r ≡ answerNext o position Answer.Converted ⌝ }
+// The answer to the refusal of the element at the byte `input` of the source, which has this position, and whose steps leave this fit.
+fn refused_at(src: &[u8], s: Settings, input: usize, position: usize, r: Fit) -> Answer
+    requires { ⌜ SourceReady s (now src) input ⌝ }
+    ensures { λ a. ⌜ a ≡ refusedAnswer s (fromLe (take (s .sw) (drop input (now (src .entry))))) position r ⌝ }
 {
-    match o {
-        Outcome::Stored(_) => Answer::Converted,
-        Outcome::NanOrInf { value } => Answer::NanOrInf {
-            position: position,
-            value: value,
-        },
-        Outcome::OutOfRange { value, lo, hi } => Answer::OutOfRange {
-            position: position,
-            value: value,
-            lo: lo,
-            hi: hi,
-        },
-        Outcome::FloatOutOfRange { value, lo, hi } => Answer::FloatOutOfRange {
-            position: position,
-            value: value,
-            lo: lo,
-            hi: hi,
-        },
-    }
+    let b = bytes_le::read_le(src, input, s.sw);
+    let source = s.source;
+    let target = s.target;
+    element::refusal(position, element::outcome(b, r, source, target))
 }
 
 // The elements of the positions from first to before end, by position, up to the first refusal.
@@ -123,40 +103,24 @@ fn run(
     first: usize,
     end: usize,
 ) -> Answer
-    requires { ⌜ RunIn s (now keys) (now targets) (now src) (now dst) first end ⌝ }
+    requires { ⌜ RunReady s (now keys) (now targets) (now src) (now dst) first end ⌝ }
     ensures { λ r. ⌜ Ran (settingsFor s (now (keys .entry)) (now (targets .entry))) (s .sw) (s .dw) (now (src .entry)) (now (dst .entry)) first end r (now (dst .exit)) ⌝ }
 {
     let sw = s.sw;
     let dw = s.dw;
     let mut i = first;
-    let mut at = first * sw;
-    let mut to = first * dw;
+    let mut input = first * sw;
+    let mut output = first * dw;
     while i < end {
-        let o = convert_at(src, dst, keys, targets, s, at, to);
-        let Outcome::Stored(_) = o else {
-            return refusal(i, o);
+        let r = convert_at(src, dst, keys, targets, s, input, output);
+        let Fit::Pattern(_) = r else {
+            return refused_at(src, s, input, i, r);
         };
-        at += sw;
-        to += dw;
+        input += sw;
+        output += dw;
         i += 1;
     }
     Answer::Converted
-}
-
-// Whether every code is listed.
-pub fn codes_listed(from: u8, to: u8, rounding: u8, range: u8) -> bool
-    ensures { λ r. ⌜ r ≡ ltb from 10 && ltb to 10 && ltb rounding 5 && ltb range 3 ⌝ }
-{
-    if 10 <= from {
-        return false;
-    }
-    if 10 <= to {
-        return false;
-    }
-    if 5 <= rounding {
-        return false;
-    }
-    range < 3
 }
 
 // The settings of listed codes and of so many bytes of keys.
@@ -166,12 +130,12 @@ fn settings_of(from: u8, to: u8, rounding: u8, range: u8, keys: usize) -> Settin
 {
     let source = kinds::row_of(from);
     let target = kinds::row_of(to);
+    let from_format = source.format;
+    let to_format = target.format;
     Settings {
-        class: element::class_of(from, to),
-        from: from,
-        to: to,
-        source: source,
-        target: target,
+        source: from_format,
+        target: to_format,
+        route: element::route_of(from_format, to_format),
         rounding: kinds::rounding_of(rounding),
         range: kinds::range_of(range),
         sw: source.bytes,
@@ -215,7 +179,7 @@ pub fn convert(
 ) -> Answer
     ensures { λ r. ⌜ Contract (inputs (now (src .entry)) (now (dst .entry)) (now (keys .entry)) (now (targets .entry)) from to rounding range) r (now (dst .exit)) ⌝ }
 {
-    if !codes_listed(from, to, rounding, range) {
+    if !kinds::codes_listed(from, to, rounding, range) {
         return Answer::UnknownCode;
     }
     let s = settings_of(from, to, rounding, range, keys.len());

@@ -1,7 +1,10 @@
+pub mod Filled
+pub mod Rows
+pub mod FloatForms
 pub mod Range
-pub mod Widened
-pub mod FloatToInt
 pub mod Integers
+pub mod FloatToInt
 pub mod ToFloat
 pub mod IntToFloat
-pub mod Classes
+pub mod Refusals
+pub mod Steps

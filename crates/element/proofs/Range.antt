@@ -1,46 +1,33 @@
 -- A whole number and an integer kind's range, by sign and magnitude, in any unit u.
--- Assumes nothing.
-use mathlib.Core.Path.{_≡_, refl, sym, ap, subst, _∙_, ap₂}
+use mathlib.Core.Path.{_≡_, refl, sym, ap, subst, _∙_}
 use mathlib.Core.Bool.{Bool, true, false, cond, _&&_}
 use mathlib.Core.Logic.{_⊎_, inl, inr}
-use Prim.Native.Nat.{suc, zero, ℕ, _-_, _*_, _/_, _^_, _≤_, _<_, _%_, _+_, min}
-use native.Mathlib.Nat.{zero-mul, mul-le-mul-right, le-of-mul-le-mul-right, mul-div-cancel, div-eq-of-lt, mul-pos, mul-lt-mul-of-pos-right, lt-of-lt-of-le, mod-eq-of-lt}
+use Prim.Native.Nat.{ℕ, _-_, _*_, _/_, _^_, _≤_, _<_, _%_, _+_, min}
+use native.Mathlib.Nat.{zero-mul, mul-le-mul-right, le-of-mul-le-mul-right, mul-lt-mul-of-pos-right, lt-of-lt-of-le, mod-eq-of-lt}
 use native.Mathlib.Omega.{arith}
 use lib.Dec.{leb, T}
-use lib.IntN.{ℤ, pos, negsuc, negℤ}
+use lib.IntN.{ℤ, pos, negℤ}
 use lib.Pow.{pow-pos, pow-mono}
-use lib.Signed.{_≤ℤ_, shrZ, leZ-yes, ltZ-yes, _<ℤ_, leZ, ltZ}
+use lib.Signed.{_≤ℤ_, leZ-yes, ltZ-yes, _<ℤ_, leZ, ltZ}
 use borrow.Author.Tests.{le-leb, lt-leb, leb-false, leb-true}
-use Rattle.grid.proofs.Int.{ints, up-neg, dn-neg}
-use Rattle.patterns.proofs.Integers.{lowIn, below}
-use Rattle.patterns.specs.Kind.{highInt, Kind, integer, lowInt, highest, bits, lowest}
 use Rattle.grid.specs.Round.{signed}
-use Rattle.kinds.specs.declared.OutOfRangeMode.the-variants.{Clamp, None, Wrap}
-use Rattle.kinds.specs.declared.OutOfRangeMode.{OutOfRangeMode}
-use Rattle.kinds.specs.declared.Outcome.{Outcome}
-use Rattle.kinds.specs.declared.Outcome.the-variants.{Stored, OutOfRange}
+use Rattle.grid.proofs.Int.{ints, up-neg, dn-neg}
 use Rattle.grid.proofs.Neighbours.{cut, pow-twice-pred}
-use Rattle.element.specs.Convert.{endMag, Held, fitted}
-use Rattle.cast_spec.specs.Element.{inRange, nearerEnd, beyond, ranged}
+use Rattle.patterns.specs.Kind.{highInt, Kind, integer, highest}
 use Rattle.patterns.specs.Pattern.{lowBits, patternOf}
-use Rattle.kinds.specs.declared.KindRow.{KindRow}
-use Rattle.element.specs.declared.Fit.the-variants.{Pattern, Past}
-use Rattle.wrapping.proofs.Residues.{low-bits-mod}
-use Rattle.patterns.proofs.AnyKind.{lowest-in}
+use Rattle.patterns.proofs.AnyKind.{lowest-in, whole-pattern}
+use Rattle.patterns.proofs.Integers.{lowIn}
 use Rattle.kinds.specs.Row.{integerOf, IntegerRow}
-
--- ---- a whole number of units, over the unit
-over-unit : (neg : Bool) (N u : ℕ) → 0 < u → shrZ (signed neg (N * u)) u ≡ signed neg N
-over-unit false N u h = ap pos (mul-div-cancel N h)
-over-unit true zero u h = ap (λ (z : ℕ). shrZ (negℤ (pos z)) u) (zero-mul u) ∙ ap pos (div-zero u h)
-  where
-    div-zero : (u : ℕ) → 0 < u → 0 / u ≡ 0
-    div-zero u h = div-eq-of-lt h
-over-unit true (suc q) u h = go (suc q * u) (mul-pos {m = suc q} (omega arith) h) refl
-  where
-    go : (m : ℕ) → 0 < m → m ≡ suc q * u → shrZ (negℤ (pos m)) u ≡ negsuc q
-    go zero l e = absurd (omega arith)
-    go (suc a) l e = ap negsuc (below a q u h e)
+use Rattle.kinds.specs.declared.IntegerFormat.{IntegerFormat}
+use Rattle.kinds.specs.declared.OutOfRangeMode.{OutOfRangeMode}
+use Rattle.kinds.specs.declared.OutOfRangeMode.the-variants.{Clamp, None, Wrap}
+use Rattle.kinds.specs.declared.Outcome.the-variants.{Stored}
+use Rattle.kinds.specs.declared.Fit.{Fit}
+use Rattle.kinds.specs.declared.Fit.the-variants.{Pattern, OutOfRange}
+use Rattle.cast_spec.specs.Element.{inRange, nearerEnd, beyond, ranged}
+use Rattle.wrapping.proofs.Residues.{low-bits-mod}
+use Rattle.narrowing.specs.Fit.{fitOf}
+use Rattle.element.specs.Convert.{endMag, RangeApplied}
 
 -- ---- in range exactly where the magnitude is at most the end's on that side
 module _ (s : Bool) (n u : ℕ) (unit : 0 < u) where
@@ -109,10 +96,6 @@ module _ (s : Bool) (n : ℕ) (neg : Bool) (N : ℕ) where
   abbrev y : ℤ
   y = signed neg (N * 2 ^ 1074)
 
-  pattern-is : (t : Bool) (M : ℕ) → patternOf k t (signed neg (M * 2 ^ 1074)) ≡ lowBits n (signed neg M)
-  unfolding patternOf
-  pattern-is t M = ap (lowBits n) (over-unit neg M (2 ^ 1074) (pow-pos 1074))
-
   test-is : inRange k y ≡ leb N (endMag k neg)
   unfolding highest endMag end
   test-is = ap (λ (z : ℤ). leZ z y && leZ y (pos (highInt s n * 2 ^ 1074))) (lowest-in s n) ∙ in-range-is s n (2 ^ 1074) (pow-pos 1074) neg N
@@ -121,28 +104,35 @@ module _ (s : Bool) (n : ℕ) (neg : Bool) (N : ℕ) where
   unfolding highest endMag end
   nearer h = ap (λ (z : ℤ). cond (ltZ y z) z (pos (highInt s n * 2 ^ 1074))) (lowest-in s n) ∙ nearer-is s n (2 ^ 1074) (pow-pos 1074) neg N h
 
-  pub fits-in : (range : OutOfRangeMode) (v : ℕ) → N ≤ endMag k neg → ranged k range v neg y ≡ Stored (lowBits n (signed neg N))
-  fits-in range v h = ap (λ (c : Bool). cond c (Stored (patternOf k neg y)) (beyond k range v neg y)) (test-is ∙ le-leb N (endMag k neg) h) ∙ ap Stored (pattern-is neg N)
+  -- the pattern of a magnitude of that sign
+  abbrev stored : ℕ → Fit
+  stored z = Pattern (lowBits n (signed neg z))
 
-  past : (range : OutOfRangeMode) (v : ℕ) → endMag k neg < N → ranged k range v neg y ≡ beyond k range v neg y
-  past range v h = ap (λ (c : Bool). cond c (Stored (patternOf k neg y)) (beyond k range v neg y)) (test-is ∙ lt-leb N (endMag k neg) h)
+  abbrev fit : OutOfRangeMode → Fit
+  fit range = fitOf (ranged k range 0 neg y)
 
-  pub past-none : (v : ℕ) → endMag k neg < N → ranged k None v neg y ≡ OutOfRange v (lowInt s n) (highInt s n)
+  fits-in : (range : OutOfRangeMode) → N ≤ endMag k neg → stored N ≡ fit range
+  fits-in range h = sym (ap (λ (c : Bool). fitOf (cond c (Stored (patternOf k neg y)) (beyond k range 0 neg y))) (test-is ∙ le-leb N (endMag k neg) h) ∙ ap Pattern (whole-pattern s n neg neg N))
+
+  past : (range : OutOfRangeMode) → endMag k neg < N → fitOf (beyond k range 0 neg y) ≡ fit range
+  past range h = sym (ap (λ (c : Bool). fitOf (cond c (Stored (patternOf k neg y)) (beyond k range 0 neg y))) (test-is ∙ lt-leb N (endMag k neg) h))
+
+  past-none : endMag k neg < N → OutOfRange ≡ fit None
   unfolding beyond
-  past-none v h = past None v h
+  past-none h = past None h
 
-  pub past-clamp : (v : ℕ) → endMag k neg < N → ranged k Clamp v neg y ≡ Stored (lowBits n (signed neg (endMag k neg)))
+  past-clamp : endMag k neg < N → stored (endMag k neg) ≡ fit Clamp
   unfolding beyond
-  past-clamp v h = past Clamp v h ∙ ap (λ (z : ℤ). Stored (patternOf k neg z)) (nearer h) ∙ ap Stored (pattern-is neg (endMag k neg))
+  past-clamp h = sym (ap (λ (z : ℤ). Pattern (patternOf k neg z)) (nearer h) ∙ ap Pattern (whole-pattern s n neg neg (endMag k neg))) ∙ past Clamp h
 
-  pub past-wrap : (v : ℕ) → endMag k neg < N → ranged k Wrap v neg y ≡ Stored (lowBits n (signed neg N))
+  past-wrap : endMag k neg < N → stored N ≡ fit Wrap
   unfolding beyond
-  past-wrap v h = past Wrap v h ∙ ap Stored (pattern-is neg N)
+  past-wrap h = sym (ap Pattern (whole-pattern s n neg neg N)) ∙ past Wrap h
 
 -- ---- what a program has in hand: the magnitude modulo 2^64, and whether it reaches 2^64
 end-lt : (s : Bool) (n : ℕ) (neg : Bool) → 0 < n → n ≤ 64 → endMag (integer s n) neg < 2 ^ 64
 unfolding endMag
-end-lt s n neg some most = go s neg (pow-mono {j = 64} most) (pow-twice-pred n some) (pow-pos (n - 1))
+end-lt s n neg positive at-most = go s neg (pow-mono {j = 64} at-most) (pow-twice-pred n positive) (pow-pos (n - 1))
   where
     go : (s neg : Bool) → 2 ^ n ≤ 2 ^ 64 → 2 ^ n ≡ 2 * 2 ^ (n - 1) → 0 < 2 ^ (n - 1) → cond neg (cond s (2 ^ (n - 1)) 0) (highInt s n) < 2 ^ 64
     go true true a b c = omega arith
@@ -150,62 +140,57 @@ end-lt s n neg some most = go s neg (pow-mono {j = 64} most) (pow-twice-pred n s
     go false true a b c = omega arith
     go false false a b c = omega arith
 
-module _ (s : Bool) (n : ℕ) (some : 0 < n) (most : n ≤ 64) (neg : Bool) (N : ℕ) where
-  far-past : leb (2 ^ 64) N ≡ true → endMag (integer s n) neg < N
-  far-past e = lt-of-lt-of-le (end-lt s n neg some most) (leb-true (2 ^ 64) N e)
+module _ (s : Bool) (n : ℕ) (positive : 0 < n) (at-most : n ≤ 64) (neg : Bool) (N : ℕ) where
+  exceeds-past : leb (2 ^ 64) N ≡ true → endMag (integer s n) neg < N
+  exceeds-past e = lt-of-lt-of-le (end-lt s n neg positive at-most) (leb-true (2 ^ 64) N e)
 
-  near-is : leb (2 ^ 64) N ≡ false → N % 2 ^ 64 ≡ N
-  near-is e = mod-eq-of-lt (leb-false (2 ^ 64) N e)
+  within-is : leb (2 ^ 64) N ≡ false → N % 2 ^ 64 ≡ N
+  within-is e = mod-eq-of-lt (leb-false (2 ^ 64) N e)
 
 -- by the target's bits and sign, and its end on that side
-module _ (s : Bool) (n : ℕ) (some : 0 < n) (most : n ≤ 64) (neg : Bool) (m : ℕ) (far : Bool) (end : ℕ) (ends : end ≡ endMag (integer s n) neg) where
-  -- the pattern of a magnitude of that sign
-  abbrev stored : ℕ → Outcome
-  stored z = Stored (lowBits n (signed neg z))
+module _ (s : Bool) (n : ℕ) (positive : 0 < n) (at-most : n ≤ 64) (neg : Bool) (m : ℕ) (exceeds : Bool) (end : ℕ) (ends : end ≡ endMag (integer s n) neg) where
+  abbrev pattern : ℕ → Fit
+  pattern z = Pattern (lowBits n (signed neg z))
 
-  near-magnitude : (N : ℕ) → far ≡ false → m ≡ N % 2 ^ 64 → far ≡ leb (2 ^ 64) N → m ≡ N
-  near-magnitude N f a b = a ∙ near-is s n some most neg N (sym b ∙ f)
+  own-magnitude : (N : ℕ) → exceeds ≡ false → m ≡ N % 2 ^ 64 → exceeds ≡ leb (2 ^ 64) N → m ≡ N
+  own-magnitude N f a b = a ∙ within-is s n positive at-most neg N (sym b ∙ f)
 
-  pub refused-far : far ≡ true → Held neg m far (integer s n) None Past
-  refused-far f = record { is = λ N v a b. sym (past-none s n neg N v (far-past s n some most neg N (sym b ∙ f))) }
+  pub refused-exceeding : exceeds ≡ true → RangeApplied neg m exceeds (integer s n) None OutOfRange
+  refused-exceeding f = record { fit = λ N a b. past-none s n neg N (exceeds-past s n positive at-most neg N (sym b ∙ f)) }
 
-  pub refused-near : far ≡ false → end < m → Held neg m far (integer s n) None Past
-  refused-near f h = record { is = λ N v a b. sym (past-none s n neg N v (omega (arith, near-magnitude N f a b))) }
+  pub refused-past : exceeds ≡ false → end < m → RangeApplied neg m exceeds (integer s n) None OutOfRange
+  refused-past f h = record { fit = λ N a b. past-none s n neg N (omega (arith, own-magnitude N f a b)) }
 
-  pub held-in : far ≡ false → m ≤ end → (range : OutOfRangeMode) (r : ℕ) → r ≡ lowBits n (signed neg m) → Held neg m far (integer s n) range (Pattern r)
-  held-in f h range r e = record { is = λ N v a b. let c = near-magnitude N f a b in ap Stored e ∙ ap stored c ∙ sym (fits-in s n neg N range v (omega arith)) }
+  pub stored-in : exceeds ≡ false → m ≤ end → (range : OutOfRangeMode) (r : ℕ) → r ≡ lowBits n (signed neg m) → RangeApplied neg m exceeds (integer s n) range (Pattern r)
+  stored-in f h range r e = record { fit = λ N a b. let c = own-magnitude N f a b in ap Pattern e ∙ ap pattern c ∙ fits-in s n neg N range (omega arith) }
 
-  pub clamped : (r : ℕ) → r ≡ lowBits n (signed neg (cond far end (min m end))) → Held neg m far (integer s n) Clamp (Pattern r)
-  clamped r e = record { is = λ N v a b. ap Stored e ∙ go N v far (far-past s n some most neg N) a b (λ f. near-magnitude N f a b) }
+  pub clamped : (r : ℕ) → r ≡ lowBits n (signed neg (cond exceeds end (min m end))) → RangeApplied neg m exceeds (integer s n) Clamp (Pattern r)
+  clamped r e = record { fit = λ N a b. ap Pattern e ∙ go N exceeds (exceeds-past s n positive at-most neg N) a b (λ f. own-magnitude N f a b) }
     where
-      go : (N v : ℕ) (t : Bool) → (leb (2 ^ 64) N ≡ true → endMag (integer s n) neg < N) → m ≡ N % 2 ^ 64 → t ≡ leb (2 ^ 64) N → (t ≡ false → m ≡ N) → stored (cond t end (min m end)) ≡ ranged (integer s n) Clamp v neg (signed neg (N * 2 ^ 1074))
-      go N v true p a b c = ap stored ends ∙ sym (past-clamp s n neg N v (p (sym b)))
-      go N v false p a b c = let is = c refl in cut end m
-          (λ (l : end < m). let z : min m end ≡ endMag (integer s n) neg = omega arith in ap stored z ∙ sym (past-clamp s n neg N v (omega arith)))
-          (λ (l : m ≤ end). let z : min m end ≡ N = omega arith in ap stored z ∙ sym (fits-in s n neg N Clamp v (omega arith)))
+      go : (N : ℕ) (t : Bool) → (leb (2 ^ 64) N ≡ true → endMag (integer s n) neg < N) → m ≡ N % 2 ^ 64 → t ≡ leb (2 ^ 64) N → (t ≡ false → m ≡ N) → pattern (cond t end (min m end)) ≡ fitOf (ranged (integer s n) Clamp 0 neg (signed neg (N * 2 ^ 1074)))
+      go N true p a b c = ap pattern ends ∙ past-clamp s n neg N (p (sym b))
+      go N false p a b c = let is = c refl in cut end m
+          (λ (l : end < m). let z : min m end ≡ endMag (integer s n) neg = omega arith in ap pattern z ∙ past-clamp s n neg N (omega arith))
+          (λ (l : m ≤ end). let z : min m end ≡ N = omega arith in ap pattern z ∙ fits-in s n neg N Clamp (omega arith))
 
-  pub wrapped : (r : ℕ) → r ≡ lowBits n (signed neg m) → Held neg m far (integer s n) Wrap (Pattern r)
+  pub wrapped : (r : ℕ) → r ≡ lowBits n (signed neg m) → RangeApplied neg m exceeds (integer s n) Wrap (Pattern r)
   wrapped r e = record {
-    is = λ N v a b. ap Stored (e ∙ ap (λ (z : ℕ). lowBits n (signed neg z)) a ∙ low-bits-mod n neg N most) ∙ cut (endMag (integer s n) neg) N
-        (λ (l : endMag (integer s n) neg < N). sym (past-wrap s n neg N v l))
-        (λ (l : N ≤ endMag (integer s n) neg). sym (fits-in s n neg N Wrap v l));
+    fit = λ N a b. ap Pattern (e ∙ ap (λ (z : ℕ). lowBits n (signed neg z)) a ∙ low-bits-mod n neg N at-most) ∙ cut (endMag (integer s n) neg) N
+        (λ (l : endMag (integer s n) neg < N). past-wrap s n neg N l)
+        (λ (l : N ≤ endMag (integer s n) neg). fits-in s n neg N Wrap l);
   }
 
 -- ---- the ends by the row
-module _ (row : KindRow) (is : IntegerRow row) where
+module _ (f : IntegerFormat) (row : IntegerRow f) where
   -- the highest of a signed kind is one less than the lowest in size
-  raised : row .signed ≡ true → row .highest + 1 ≡ 2 ^ (row .bits - 1)
-  raised f = ap (λ (z : ℕ). z + 1) (is .high ∙ ap (λ (t : Bool). highInt t (row .bits)) f) ∙ omega (arith, pow-pos (row .bits - 1))
+  raised : f .signed ≡ true → f .highest + 1 ≡ 2 ^ (f .bits - 1)
+  raised t = ap (λ (z : ℕ). z + 1) (row .high ∙ ap (λ (c : Bool). highInt c (f .bits)) t) ∙ omega (arith, pow-pos (f .bits - 1))
 
-  pub end-is : (neg : Bool) (low r : ℕ) → ((row .signed ≡ true) × (low ≡ row .highest + 1)) ⊎ ((row .signed ≡ false) × (low ≡ 0)) → r ≡ cond neg low (row .highest) → r ≡ endMag (integerOf row) neg
+  pub end-is : (neg : Bool) (low r : ℕ) → ((f .signed ≡ true) × (low ≡ f .highest + 1)) ⊎ ((f .signed ≡ false) × (low ≡ 0)) → r ≡ cond neg low (f .highest) → r ≡ endMag (integerOf f) neg
   unfolding endMag
-  end-is false low r w e = e ∙ is .high
-  end-is true low r (inl w) e = e ∙ w .1 ∙ raised (w .0) ∙ ap (λ (t : Bool). cond t (2 ^ (row .bits - 1)) 0) (sym (w .0))
-  end-is true low r (inr w) e = e ∙ w .1 ∙ ap (λ (t : Bool). cond t (2 ^ (row .bits - 1)) 0) (sym (w .0))
+  end-is false low r w e = e ∙ row .high
+  end-is true low r (inl w) e = e ∙ w .1 ∙ raised (w .0) ∙ ap (λ (t : Bool). cond t (2 ^ (f .bits - 1)) 0) (sym (w .0))
+  end-is true low r (inr w) e = e ∙ w .1 ∙ ap (λ (t : Bool). cond t (2 ^ (f .bits - 1)) 0) (sym (w .0))
 
-  pub raised-fits : row .signed ≡ true → row .highest + 1 < 2 ^ 64
-  raised-fits f = omega (arith, raised f, pow-mono {i = row .bits - 1} {j = 63} (omega (arith, is .most)))
-
-  -- a refusal by the row
-  pub refused-as : (v : ℕ) → OutOfRange v (row .lowest) (row .highest) ≡ fitted (integerOf row) v Past
-  refused-as v = ap₂ (OutOfRange v) (is .low) (is .high)
+  pub raised-fits : f .signed ≡ true → f .highest + 1 < 2 ^ 64
+  raised-fits t = omega (arith, raised t, pow-mono {i = f .bits - 1} {j = 63} (omega (arith, row .at-most-64)))

@@ -1,246 +1,363 @@
-// One element converted between any two kinds, with no map: the four conversions and the choice among them.
+// One element converted between any two kinds: read from its pattern, taken through its steps, and written as the target's pattern.
 ghost use mathlib.Core.Path.{_≡_};
 ghost use mathlib.Core.Bool.{cond};
-ghost use Prim.Native.Nat.{_<_, _≤_, min};
+ghost use Prim.Native.Nat.{min};
 ghost use Rattle.grid.specs.declared.RoundingMode.{RoundingMode};
 ghost use Rattle.patterns.specs.Pattern.{asF64};
-ghost use Rattle.patterns.specs.Kind.{f32, f64};
-ghost use Rattle.kinds.specs.Codes.{kindOf};
-ghost use Rattle.kinds.specs.Row.{rowOf, integerOf, IntegerRow};
-ghost use Rattle.kinds.specs.declared.OutOfRangeMode.{OutOfRangeMode};
-ghost use Rattle.kinds.specs.declared.Outcome.the-variants.{Stored};
+ghost use Rattle.kinds.specs.Row.{integerOf, floatOf, kindIn, IntegerRow, FloatRow, FormatRow};
+ghost use Rattle.cast_spec.specs.Chunk.{answerNext};
 ghost use Rattle.integers.specs.Magnitude.{IntegerPattern};
-ghost use Rattle.element.specs.Convert.{ElementPattern, FloatPattern, HeldByF32, classOf, endMag, fitted, Held, unmapped};
+ghost use Rattle.floats.specs.Form as form;
+ghost use Rattle.narrowing.specs.Fit.{fitFloat};
+ghost use Rattle.element.specs.Convert.{FloatPattern, FormatPattern, elementOf, elementF64, CanonicalElement, fitInteger, stepped, filled, endMag, RangeApplied};
+ghost use Rattle.element.specs.Route.{routeOf, sourceOf, targetOf, RouteRow, SourcePattern};
+use floats::Class;
+use floats::Float;
 use grid::RoundingMode;
-use kinds::KindRow;
+use integers::Integer;
+use kinds::Answer;
+use kinds::Fit;
+use kinds::FloatFormat;
+use kinds::Format;
+use kinds::IntegerFormat;
+use kinds::Lookup;
 use kinds::OutOfRangeMode;
 use kinds::Outcome;
 
-// Which of the four conversions two kinds take.
-pub enum Class {
-    IntToInt,
-    IntToFloat,
-    FloatToInt,
-    FloatToFloat,
+// An element of any kind: an integer by sign and magnitude, or a float by sign and class.
+pub enum Element {
+    Integer(Integer),
+    Float(Float),
 }
 
-// What the range step leaves of a whole number: the target pattern to store, or nothing where it is refused.
-pub enum Fit {
-    Pattern(u64),
-    Past,
+// Which of the four conversions two kinds take, with the format of each; settled once for a call.
+pub enum Route {
+    IntToInt {
+        from: IntegerFormat,
+        to: IntegerFormat,
+    },
+    IntToFloat {
+        from: IntegerFormat,
+        to: FloatFormat,
+    },
+    FloatToInt {
+        from: FloatFormat,
+        to: IntegerFormat,
+    },
+    FloatToFloat {
+        from: FloatFormat,
+        to: FloatFormat,
+    },
 }
+
+// The route of two formats.
+pub fn route_of(from: Format, to: Format) -> Route
+    ensures { λ r. ⌜ r ≡ routeOf from to ⌝ }
+{
+    match from {
+        Format::Integer(f) => match to {
+            Format::Integer(t) => Route::IntToInt { from: f, to: t },
+            Format::Float(t) => Route::IntToFloat { from: f, to: t },
+        },
+        Format::Float(f) => match to {
+            Format::Integer(t) => Route::FloatToInt { from: f, to: t },
+            Format::Float(t) => Route::FloatToFloat { from: f, to: t },
+        },
+    }
+}
+
+// ---- readers, and the value of a refusal
+
+// A float's pattern as an element.
+fn read_float(b: u64, format: FloatFormat) -> Float
+    requires { ⌜ FloatPattern b format ⌝ }
+    ensures { λ r. ⌜ r ≡ form.floatOf (floatOf format) b ⌝ }
+{
+    let precision = format.precision;
+    match precision {
+        24 => floats::read_f32(b as u32),
+        _ => floats::read_f64(b),
+    }
+}
+
+// A pattern as an element.
+fn read(b: u64, format: Format) -> Element
+    requires { ⌜ FormatPattern b format ⌝ }
+    ensures { λ r. ⌜ r ≡ elementOf format b ⌝ }
+{
+    match format {
+        Format::Integer(f) => Element::Integer(integers::int_magnitude(b, f.signed, f.bits)),
+        Format::Float(f) => Element::Float(read_float(b, f)),
+    }
+}
+
+// The f64 of an element; an integer's is the nearest, halfway the even one.
+fn as_f64(x: Element) -> u64
+    requires { ⌜ CanonicalElement x ⌝ }
+    ensures { λ r. ⌜ r ≡ elementF64 x ⌝ }
+{
+    match x {
+        Element::Integer(n) => integers::nearest_f64(n.magnitude, n.negative),
+        Element::Float(f) => floats::write_f64(f),
+    }
+}
+
+// ---- the range of an integer kind
 
 // The magnitude of an integer kind's lowest or highest number.
-fn end_magnitude(to: KindRow, negative: bool) -> u64
+fn end_magnitude(to: IntegerFormat, negative: bool) -> u64
     requires { ⌜ IntegerRow to ⌝ }
     ensures { λ r. ⌜ r ≡ endMag (integerOf to) negative ⌝ }
 {
     let lowest = if to.signed { to.highest + 1 } else { 0 };
-    select::choose(negative, to.highest, lowest)
+    select::choose(negative, lowest, to.highest)
 }
 
-// A magnitude held to the end's: the end where it is 2^64 or more (`far`), else the lesser of the two.
-fn clamp(magnitude: u64, far: bool, end: u64) -> u64
-    ensures { λ r. ⌜ r ≡ cond far end (min magnitude end) ⌝ }
+// A magnitude clamped to an end: the end where the magnitude exceeds 64 bits, else the lesser of the two.
+fn clamp(magnitude: u64, exceeds: bool, end: u64) -> u64
+    ensures { λ r. ⌜ r ≡ cond exceeds end (min magnitude end) ⌝ }
 {
-    if far {
+    if exceeds {
         return end;
     }
     select::least(magnitude, end)
 }
 
-// A whole number held to an integer kind's range, given by its sign, its magnitude modulo 2^64, and whether the magnitude itself is 2^64 or more.
-fn hold(negative: bool, magnitude: u64, far: bool, to: KindRow, range: OutOfRangeMode) -> Fit
+// A whole number to an integer kind, by the range choice: its sign, its magnitude modulo 2^64, and whether the magnitude exceeds 64 bits.
+fn apply_range(
+    negative: bool,
+    magnitude: u64,
+    exceeds: bool,
+    to: IntegerFormat,
+    range: OutOfRangeMode,
+) -> Fit
     requires { ⌜ IntegerRow to ⌝ }
-    ensures { λ r. ⌜ Held negative magnitude far (integerOf to) range r ⌝ }
+    ensures { λ r. ⌜ RangeApplied negative magnitude exceeds (integerOf to) range r ⌝ }
 {
     let end = end_magnitude(to, negative);
     let bits = to.bits;
     match range {
         OutOfRangeMode::None => {
-            if far {
-                return Fit::Past;
+            if exceeds {
+                return Fit::OutOfRange;
             }
             if end < magnitude {
-                return Fit::Past;
+                return Fit::OutOfRange;
             }
             Fit::Pattern(wrapping::wrap_magnitude(negative, magnitude, bits))
         }
         OutOfRangeMode::Clamp => {
-            let held = clamp(magnitude, far, end);
-            Fit::Pattern(wrapping::wrap_magnitude(negative, held, bits))
+            let clamped = clamp(magnitude, exceeds, end);
+            Fit::Pattern(wrapping::wrap_magnitude(negative, clamped, bits))
         }
         OutOfRangeMode::Wrap => Fit::Pattern(wrapping::wrap_magnitude(negative, magnitude, bits)),
     }
 }
 
-// A float element as an f64.
-fn float_as_f64(b: u64, from: u8) -> u64
-    requires { ⌜ FloatPattern b from ⌝ }
-    ensures { λ r. ⌜ r ≡ asF64 (kindOf from) b ⌝ }
-{
-    if from == 8 {
-        return widening::widen(b as u32);
-    }
-    b
-}
+// ---- the four conversions
 
-// The refusal of an element past an integer kind.
-fn out_of_range(value: u64, to: KindRow) -> Outcome
-    requires { ⌜ IntegerRow to ⌝ }
-    ensures { λ r. ⌜ r ≡ fitted (integerOf to) value Fit.Past ⌝ }
-{
-    Outcome::OutOfRange {
-        value: value,
-        lo: to.lowest,
-        hi: to.highest,
-    }
-}
-
-// A float to an integer kind.
+// A float to an integer kind: rounded to a whole number, which then meets the range.
 pub fn convert_float_to_int(
-    b: u64,
-    from: u8,
-    to: KindRow,
+    x: Float,
+    to: IntegerFormat,
     mode: RoundingMode,
     range: OutOfRangeMode,
-) -> Outcome
-    requires { ⌜ FloatPattern b from × IntegerRow to ⌝ }
-    ensures { λ r. ⌜ r ≡ unmapped (kindOf from) (integerOf to) mode range b ⌝ }
+) -> Fit
+    requires { ⌜ form.CanonicalClass (x .class) × IntegerRow to ⌝ }
+    ensures { λ r. ⌜ r ≡ fitFloat (integerOf to) mode range x ⌝ }
 {
-    let value = float_as_f64(b, from);
-    if 0x7ff0_0000_0000_0000 <= value & 0x7fff_ffff_ffff_ffff {
-        return Outcome::NanOrInf { value: value };
-    }
-    let whole = rounding::round_to_whole(value, mode);
-    match hold(whole.negative, whole.magnitude, whole.far, to, range) {
-        Fit::Pattern(pattern) => Outcome::Stored(pattern),
-        Fit::Past => out_of_range(value, to),
-    }
+    let negative = x.negative;
+    let class = x.class;
+    let Class::Finite(magnitude) = class else {
+        return Fit::NotFinite;
+    };
+    let whole = rounding::round_to_whole(magnitude, mode, negative);
+    apply_range(negative, whole.magnitude, whole.exceeds, to, range)
 }
 
 // An integer to an integer kind; nothing is rounded.
-pub fn convert_int_to_int(b: u64, from: KindRow, to: KindRow, range: OutOfRangeMode) -> Outcome
-    requires { ⌜ IntegerPattern b (from .bits) × IntegerRow to ⌝ }
-    ensures { λ r. ⌜ ((mode : RoundingMode) → r ≡ unmapped (integerOf from) (integerOf to) mode range b) ⌝ }
+pub fn convert_int_to_int(x: Integer, to: IntegerFormat, range: OutOfRangeMode) -> Fit
+    requires { ⌜ IntegerRow to ⌝ }
+    ensures { λ r. ⌜ ((mode : RoundingMode) → r ≡ fitInteger (integerOf to) mode range x) ⌝ }
 {
-    let x = integers::int_magnitude(b, from.signed, from.bits);
-    match hold(x.negative, x.magnitude, false, to, range) {
-        Fit::Pattern(pattern) => Outcome::Stored(pattern),
-        Fit::Past => {
-            let nearest = RoundingMode::NearestEven;
-            out_of_range(
-                integers::int_to_f64_bits(x.magnitude, x.negative, 53, nearest),
-                to,
-            )
-        }
-    }
+    apply_range(x.negative, x.magnitude, false, to, range)
 }
 
-// An f64 to f32.
-fn narrow(b: u64, mode: RoundingMode, range: OutOfRangeMode) -> Outcome
-    ensures { λ r. ⌜ r ≡ unmapped f64 f32 mode range b ⌝ }
-{
-    let magnitude = b & 0x7fff_ffff_ffff_ffff;
-    let sign = (b >> 63) << 31;
-    if 0x7ff0_0000_0000_0000 < magnitude {
-        return Outcome::Stored(widening::narrow_nan(b) as u64);
-    }
-    if magnitude == 0x7ff0_0000_0000_0000 {
-        return Outcome::Stored(sign + 0x7f80_0000);
-    }
-    let x = rounding::narrow_f32(magnitude, mode, 0x8000_0000_0000_0000 <= b);
-    if x < 0x7f80_0000 {
-        return Outcome::Stored(sign + x);
-    }
-    if let OutOfRangeMode::Clamp = range {
-        return Outcome::Stored(sign + 0x7f80_0000);
-    }
-    let row = kinds::row_of(8);
-    Outcome::FloatOutOfRange {
-        value: b,
-        lo: row.min,
-        hi: row.max,
-    }
-}
-
-// The f32 of an f64 whose number an f32 holds: nothing is rounded, so that any rule will do.
-fn narrow_held(b: u64) -> u64
-    requires { ⌜ HeldByF32 b ⌝ }
-    ensures { λ r. ⌜ ((mode : RoundingMode) (range : OutOfRangeMode) → Stored r ≡ unmapped f64 f32 mode range b) ⌝ }
-{
-    let magnitude = b & 0x7fff_ffff_ffff_ffff;
-    let negative = 0x8000_0000_0000_0000 <= b;
-    ((b >> 63) << 31) + rounding::narrow_f32(magnitude, RoundingMode::TowardsZero, negative)
-}
-
-// A float to a float kind: to its own kind, and to a wider one, exactly.
+// A float to a float kind; to f64 it is exact.
 pub fn convert_float_to_float(
-    b: u64,
-    from: u8,
-    to: u8,
+    x: Float,
+    to: FloatFormat,
     mode: RoundingMode,
     range: OutOfRangeMode,
-) -> Outcome
-    requires { ⌜ FloatPattern b from × (8 ≤ to) × (to ≤ 9) ⌝ }
-    ensures { λ r. ⌜ r ≡ unmapped (kindOf from) (kindOf to) mode range b ⌝ }
+) -> Fit
+    requires { ⌜ form.CanonicalClass (x .class) × FloatRow to ⌝ }
+    ensures { λ r. ⌜ r ≡ fitFloat (floatOf to) mode range x ⌝ }
 {
-    if from == to {
-        return Outcome::Stored(b);
+    let precision = to.precision;
+    match precision {
+        24 => narrowing::narrow_f32(x, mode, range),
+        _ => Fit::Pattern(floats::write_f64(x)),
     }
-    if from == 8 {
-        return Outcome::Stored(widening::widen(b as u32));
-    }
-    narrow(b, mode, range)
 }
 
-// An integer to a float kind, rounded once, from its own bits; the f64 that is narrowed has no more digits than an f32 holds.
-pub fn convert_int_to_float(b: u64, from: KindRow, to: u8, mode: RoundingMode) -> Outcome
-    requires { ⌜ IntegerPattern b (from .bits) × (8 ≤ to) × (to ≤ 9) ⌝ }
-    ensures { λ r. ⌜ ((range : OutOfRangeMode) → r ≡ unmapped (integerOf from) (kindOf to) mode range b) ⌝ }
+// An integer to a float kind: rounded once, from its own bits, to the target's precision, as an f64 that holds the pick.
+pub fn convert_int_to_float(
+    x: Integer,
+    to: FloatFormat,
+    mode: RoundingMode,
+    range: OutOfRangeMode,
+) -> Fit
+    requires { ⌜ FloatRow to ⌝ }
+    ensures { λ r. ⌜ r ≡ fitInteger (floatOf to) mode range x ⌝ }
 {
+    let negative = x.negative;
+    let precision = to.precision;
+    let bits = integers::int_to_f64_magnitude(x.magnitude, negative, precision, mode);
+    match precision {
+        24 => narrowing::rebias_f32(bits, negative, range),
+        _ => Fit::Pattern(floats::sign_bit(negative, 63) + bits),
+    }
+}
+
+// ---- the steps of an element: the target that the map found for it, or its conversion
+
+// From an integer kind to an integer kind.
+pub fn step_int_to_int(
+    b: u64,
+    found: Lookup,
+    from: IntegerFormat,
+    to: IntegerFormat,
+    range: OutOfRangeMode,
+) -> Fit
+    requires { ⌜ IntegerPattern b (from .bits) × IntegerRow to ⌝ }
+    ensures { λ r. ⌜ ((mode : RoundingMode) → r ≡ stepped found (integerOf from) (integerOf to) mode range b) ⌝ }
+{
+    if let Lookup::Found(pattern) = found {
+        return Fit::Pattern(pattern);
+    }
     let x = integers::int_magnitude(b, from.signed, from.bits);
-    if to == 9 {
-        return Outcome::Stored(integers::int_to_f64_bits(x.magnitude, x.negative, 53, mode));
-    }
-    let rounded = integers::int_to_f64_bits(x.magnitude, x.negative, 24, mode);
-    Outcome::Stored(narrow_held(rounded))
+    convert_int_to_int(x, to, range)
 }
 
-// The conversion that two kinds take, by their codes.
-pub fn class_of(from: u8, to: u8) -> Class
-    ensures { λ r. ⌜ r ≡ classOf from to ⌝ }
-{
-    if from < 8 {
-        if to < 8 {
-            return Class::IntToInt;
-        }
-        return Class::IntToFloat;
-    }
-    if to < 8 {
-        return Class::FloatToInt;
-    }
-    Class::FloatToFloat
-}
-
-// An element of any kind to any kind, by their codes, and by their class and rows, which a caller settles once for many elements.
-pub fn convert_element(
+// From an integer kind to a float kind.
+pub fn step_int_to_float(
     b: u64,
-    class: Class,
-    from: u8,
-    to: u8,
-    source: KindRow,
-    target: KindRow,
+    found: Lookup,
+    from: IntegerFormat,
+    to: FloatFormat,
     mode: RoundingMode,
     range: OutOfRangeMode,
-) -> Outcome
-    requires { ⌜ ElementPattern b from × (to < 10) × (class ≡ classOf from to) × (source ≡ rowOf (kindOf from)) × (target ≡ rowOf (kindOf to)) ⌝ }
-    ensures { λ r. ⌜ r ≡ unmapped (kindOf from) (kindOf to) mode range b ⌝ }
+) -> Fit
+    requires { ⌜ IntegerPattern b (from .bits) × FloatRow to ⌝ }
+    ensures { λ r. ⌜ r ≡ stepped found (integerOf from) (floatOf to) mode range b ⌝ }
 {
-    match class {
-        Class::IntToInt => convert_int_to_int(b, source, target, range),
-        Class::IntToFloat => convert_int_to_float(b, source, to, mode),
-        Class::FloatToInt => convert_float_to_int(b, from, target, mode, range),
-        Class::FloatToFloat => convert_float_to_float(b, from, to, mode, range),
+    if let Lookup::Found(pattern) = found {
+        return Fit::Pattern(pattern);
+    }
+    let x = integers::int_magnitude(b, from.signed, from.bits);
+    convert_int_to_float(x, to, mode, range)
+}
+
+// From a float kind to an integer kind.
+pub fn step_float_to_int(
+    b: u64,
+    found: Lookup,
+    from: FloatFormat,
+    to: IntegerFormat,
+    mode: RoundingMode,
+    range: OutOfRangeMode,
+) -> Fit
+    requires { ⌜ FloatPattern b from × IntegerRow to ⌝ }
+    ensures { λ r. ⌜ r ≡ stepped found (floatOf from) (integerOf to) mode range b ⌝ }
+{
+    if let Lookup::Found(pattern) = found {
+        return Fit::Pattern(pattern);
+    }
+    convert_float_to_int(read_float(b, from), to, mode, range)
+}
+
+// From a float kind to a float kind; to its own kind it is unchanged.
+pub fn step_float_to_float(
+    b: u64,
+    found: Lookup,
+    from: FloatFormat,
+    to: FloatFormat,
+    mode: RoundingMode,
+    range: OutOfRangeMode,
+) -> Fit
+    requires { ⌜ FloatPattern b from × FloatRow to ⌝ }
+    ensures { λ r. ⌜ r ≡ stepped found (floatOf from) (floatOf to) mode range b ⌝ }
+{
+    if let Lookup::Found(pattern) = found {
+        return Fit::Pattern(pattern);
+    }
+    if from.precision == to.precision {
+        return Fit::Pattern(b);
+    }
+    convert_float_to_float(read_float(b, from), to, mode, range)
+}
+
+// By the route of the two kinds. What was found is told first: then it is told once, whatever the route.
+pub fn step(b: u64, found: Lookup, route: Route, mode: RoundingMode, range: OutOfRangeMode) -> Fit
+    requires { ⌜ RouteRow route × SourcePattern b route ⌝ }
+    ensures { λ r. ⌜ r ≡ stepped found (sourceOf route) (targetOf route) mode range b ⌝ }
+{
+    if let Lookup::Found(pattern) = found {
+        return Fit::Pattern(pattern);
+    }
+    match route {
+        Route::IntToInt { from, to } => step_int_to_int(b, found, from, to, range),
+        Route::IntToFloat { from, to } => step_int_to_float(b, found, from, to, mode, range),
+        Route::FloatToInt { from, to } => step_float_to_int(b, found, from, to, mode, range),
+        Route::FloatToFloat { from, to } => step_float_to_float(b, found, from, to, mode, range),
+    }
+}
+
+// What an element of the pattern b comes to, with the fields of a refusal, where its steps leave this fit.
+pub fn outcome(b: u64, fit: Fit, source: Format, target: Format) -> Outcome
+    requires { ⌜ FormatPattern b source × FormatRow target ⌝ }
+    ensures { λ r. ⌜ r ≡ filled (kindIn target) (asF64 (kindIn source) b) fit ⌝ }
+{
+    let value = as_f64(read(b, source));
+    match fit {
+        Fit::Pattern(pattern) => Outcome::Stored(pattern),
+        Fit::NotFinite => Outcome::NanOrInf { value: value },
+        Fit::OutOfRange => match target {
+            Format::Integer(t) => Outcome::OutOfRange {
+                value: value,
+                lo: t.lowest,
+                hi: t.highest,
+            },
+            Format::Float(t) => Outcome::FloatOutOfRange {
+                value: value,
+                lo: t.lowest,
+                hi: t.highest,
+            },
+        },
+    }
+}
+
+// The answer that a refusal of the element at a position is; `Converted` where the element was stored.
+pub fn refusal(position: usize, o: Outcome) -> Answer
+    ensures { λ r. ⌜ r ≡ answerNext o position Answer.Converted ⌝ }
+{
+    match o {
+        Outcome::Stored(_) => Answer::Converted,
+        Outcome::NanOrInf { value } => Answer::NanOrInf {
+            position: position,
+            value: value,
+        },
+        Outcome::OutOfRange { value, lo, hi } => Answer::OutOfRange {
+            position: position,
+            value: value,
+            lo: lo,
+            hi: hi,
+        },
+        Outcome::FloatOutOfRange { value, lo, hi } => Answer::FloatOutOfRange {
+            position: position,
+            value: value,
+            lo: lo,
+            hi: hi,
+        },
     }
 }

@@ -1,5 +1,4 @@
--- "Sign, exponent field and fraction": the fields of a float's bits, by quotients and remainders of powers of two.
--- Assumes nothing.
+-- Internal: "Sign, exponent field and fraction": the fields of a float's bits, by quotients and remainders of powers of two.
 use Prim.Native.Nat.{ℕ, _+_, _-_, _/_, _%_, _^_}
 use lib.Dec.{leb}
 use Rattle.floats.specs.declared.Parts.{Parts}

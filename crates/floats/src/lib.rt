@@ -1,7 +1,11 @@
-// An f32's or f64's bit pattern taken apart and sorted.
+// A float's bit pattern taken apart and read: the number, the infinity or the NaN that it stands for. A format is read as the f64 that has its
+// value, so that whatever follows knows one form.
 ghost use mathlib.Core.Path.{_≡_};
+ghost use mathlib.Core.Bool.{cond};
+ghost use Prim.Native.Nat.{_*_, _^_, _<_, _≤_};
+ghost use Rattle.patterns.specs.Kind.{f32, f64};
 ghost use Rattle.floats.specs.Parts.{partsOf};
-ghost use Rattle.floats.specs.Class.{fieldRangeOf, Sorted, classBy, classOf};
+ghost use Rattle.floats.specs.Form.{scaledOf, finiteFloat, infiniteOrNan, floatOf, Canonical, CanonicalClass, finiteBits, f64Of};
 
 // Sign, exponent field and fraction of a float's bits.
 pub struct Parts {
@@ -10,18 +14,23 @@ pub struct Parts {
     pub fraction: u64,
 }
 
-// The ranges of an exponent field: zero or subnormal, normal, infinity or NaN.
-pub enum FieldRange {
-    Subnormal,
-    Normal,
-    Special,
+// The magnitude significand × 2^exponent, counted from 2^-1074: 53 significant bits, or fewer at the exponent 0.
+pub struct Scaled {
+    pub significand: u64,
+    pub exponent: u64,
 }
 
-// What a float's bits stand for, but for the sign. A finite number is significand × 2^exponent smallest spacings of its format.
+// What a float is but for its sign. A NaN has its fraction as an f64 holds it.
 pub enum Class {
-    Finite { significand: u64, exponent: u64 },
+    Finite(Scaled),
     Infinite,
-    NotANumber,
+    NotANumber { fraction: u64 },
+}
+
+// A float element: its sign and its class.
+pub struct Float {
+    pub negative: bool,
+    pub class: Class,
 }
 
 // The three fields of an f64's bits.
@@ -46,68 +55,113 @@ pub fn parts_f32(b: u32) -> Parts
     }
 }
 
-// An f64's exponent field, sorted by range.
-fn sort_f64(exponent: u64) -> FieldRange
-    ensures { λ r. ⌜ r ≡ fieldRangeOf 11 exponent ⌝ }
+// The magnitude n × 2^exponent with the highest bit of n moved to the 53rd place.
+pub fn normalize(n: u64, exponent: u64) -> Scaled
+    requires { ⌜ (n < 2 ^ 53) × (53 ≤ exponent) ⌝ }
+    ensures { λ r. ⌜ r ≡ scaledOf (n * 2 ^ exponent) ⌝ }
 {
-    match exponent {
-        0 => FieldRange::Subnormal,
-        1..=2046 => FieldRange::Normal,
-        // 2047
-        _ => FieldRange::Special,
+    if n == 0 {
+        return Scaled {
+            significand: 0,
+            exponent: 0,
+        };
+    }
+    let shift = u64::leading_zeros(n) - 11;
+    Scaled {
+        significand: n << shift,
+        exponent: exponent - (shift as u64),
     }
 }
 
-// An f32's exponent field, sorted by range.
-fn sort_f32(exponent: u64) -> FieldRange
-    ensures { λ r. ⌜ r ≡ fieldRangeOf 8 exponent ⌝ }
+// A finite float.
+fn finite(negative: bool, significand: u64, exponent: u64) -> Float
+    ensures { λ r. ⌜ r ≡ finiteFloat negative significand exponent ⌝ }
 {
-    match exponent {
-        0 => FieldRange::Subnormal,
-        1..=254 => FieldRange::Normal,
-        // 255
-        _ => FieldRange::Special,
+    Float {
+        negative: negative,
+        class: Class::Finite(Scaled {
+            significand: significand,
+            exponent: exponent,
+        }),
     }
 }
 
-// What three fields stand for, where the exponent field has this range; `leading` is the bit above the fraction.
-fn class_by(parts: Parts, range: FieldRange, leading: u64) -> Class
-    requires { ⌜ Sorted parts range leading ⌝ }
-    ensures { λ r. ⌜ r ≡ classBy range leading (parts .exponent) (parts .fraction) ⌝ }
+// The float of an exponent field of ones: an infinity, or a NaN whose fraction an f64 holds as `nan`.
+fn infinite_or_nan(negative: bool, fraction: u64, nan: u64) -> Float
+    ensures { λ r. ⌜ r ≡ infiniteOrNan negative fraction nan ⌝ }
 {
+    if fraction == 0 {
+        return Float {
+            negative: negative,
+            class: Class::Infinite,
+        };
+    }
+    Float {
+        negative: negative,
+        class: Class::NotANumber { fraction: nan },
+    }
+}
+
+// An f64's bits as an element.
+pub fn read_f64(b: u64) -> Float
+    ensures { λ r. ⌜ r ≡ floatOf f64 b ⌝ }
+{
+    let parts = parts_f64(b);
     let exponent = parts.exponent;
     let fraction = parts.fraction;
-    match range {
-        FieldRange::Subnormal => Class::Finite {
-            significand: fraction,
-            exponent: 0,
-        },
-        FieldRange::Normal => Class::Finite {
-            significand: leading + fraction,
-            exponent: exponent - 1,
-        },
-        FieldRange::Special => {
-            if fraction == 0 {
-                Class::Infinite
-            } else {
-                Class::NotANumber
-            }
+    match exponent {
+        0 => finite(parts.negative, fraction, 0),
+        1..=2046 => finite(parts.negative, 0x10_0000_0000_0000 + fraction, exponent - 1),
+        2047.. => infinite_or_nan(parts.negative, fraction, fraction),
+    }
+}
+
+// An f32's bits as an element; a NaN's highest fraction bit is set.
+pub fn read_f32(b: u32) -> Float
+    ensures { λ r. ⌜ r ≡ floatOf f32 b ⌝ }
+{
+    let parts = parts_f32(b);
+    let exponent = parts.exponent;
+    let fraction = parts.fraction;
+    match exponent {
+        0 => {
+            let x = normalize(fraction, 925);
+            finite(parts.negative, x.significand, x.exponent)
+        }
+        1..=254 => finite(parts.negative, (0x80_0000 + fraction) << 29, exponent + 895),
+        255.. => {
+            let top = (fraction & 0x3f_ffff) << 29;
+            infinite_or_nan(parts.negative, fraction, 0x8_0000_0000_0000 + top)
         }
     }
 }
 
-// What an f64's bits stand for, but for the sign.
-pub fn classify_f64(b: u64) -> Class
-    ensures { λ r. ⌜ r ≡ classOf 53 11 b ⌝ }
+// The bits below the sign of a finite magnitude as an f64.
+pub fn finite_bits(x: Scaled) -> u64
+    requires { ⌜ Canonical x ⌝ }
+    ensures { λ r. ⌜ r ≡ finiteBits x ⌝ }
 {
-    let parts = parts_f64(b);
-    class_by(parts, sort_f64(parts.exponent), 0x10_0000_0000_0000)
+    (x.exponent << 52) + x.significand
 }
 
-// What an f32's bits stand for, but for the sign.
-pub fn classify_f32(b: u32) -> Class
-    ensures { λ r. ⌜ r ≡ classOf 24 8 b ⌝ }
+// The sign's bit at a place.
+pub fn sign_bit(negative: bool, place: u32) -> u64
+    requires { ⌜ place < 64 ⌝ }
+    ensures { λ r. ⌜ r ≡ cond negative (2 ^ place) 0 ⌝ }
 {
-    let parts = parts_f32(b);
-    class_by(parts, sort_f32(parts.exponent), 0x80_0000)
+    (negative as u64) << place
+}
+
+// The f64 of an element.
+pub fn write_f64(x: Float) -> u64
+    requires { ⌜ CanonicalClass (x .class) ⌝ }
+    ensures { λ r. ⌜ r ≡ f64Of x ⌝ }
+{
+    let sign = sign_bit(x.negative, 63);
+    let class = x.class;
+    match class {
+        Class::Finite(magnitude) => sign + finite_bits(magnitude),
+        Class::Infinite => sign + 0x7ff0_0000_0000_0000,
+        Class::NotANumber { fraction } => sign + 0x7ff0_0000_0000_0000 + fraction,
+    }
 }

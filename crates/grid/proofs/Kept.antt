@@ -1,5 +1,4 @@
 -- The pick of m * 2 ^ e from m's own digits: what a program computes.
--- Assumes nothing.
 use mathlib.Core.Path.{_≡_, refl, sym, ap, _∙_, subst}
 use mathlib.Core.Bool.{Bool, true, false}
 use Prim.Native.Nat.{ℕ, zero, suc, _+_, _-_, _*_, _/_, _%_, _^_, _≤_, _<_, max}
@@ -76,8 +75,8 @@ pick-shift g r m e h l =
 
 -- where it is not, the number is on the grid
 on-fine : (g : Grid) (m e : ℕ) → unitAt g m e ≤ e → OnMag g (m * 2 ^ e)
-on-fine (whole k) m e l = record { m = m * 2 ^ (e - k); e = k; is = (refl, as-units m e k l) }
-on-fine (float p s) m e l = record { m = m; e = e; is = (lt-of-lt-of-le (size-lt m) (pow-mono (omega arith)), omega arith, refl) }
+on-fine (whole k) m e l = record { m = m * 2 ^ (e - k); e = k; written = (refl, as-units m e k l) }
+on-fine (float p s) m e l = record { m = m; e = e; written = (lt-of-lt-of-le (size-lt m) (pow-mono (omega arith)), omega arith, refl) }
 
 pub pick-exact : (g : Grid) → Sound g → (r : RoundingMode) (m e : ℕ) → unitAt g m e ≤ e → pickMag g r (m * 2 ^ e) ≡ m * 2 ^ e
 pick-exact g ok r m e l = ap natAbs (picked-pos g ok r (m * 2 ^ e) .itself (on-fine g m e l))

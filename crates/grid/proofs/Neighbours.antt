@@ -1,5 +1,4 @@
 -- The two grid numbers about a magnitude n: q * u and (q + 1) * u, with no grid number between, and one of them even.
--- Assumes nothing.
 use mathlib.Core.Path.{_≡_, refl, sym, ap, subst, _∙_}
 use mathlib.Core.Logic.{_⊎_, inl, inr}
 use mathlib.Core.Bool.{Bool, true, false, not}
@@ -51,19 +50,19 @@ div-high n u h = omega (arith, div-add-mod' n u, mod-lt n h)
 
 -- ---- the multiples of 2 ^ k
 on-whole : (k m : ℕ) → OnMag (whole k) (m * 2 ^ k)
-on-whole k m = record { m = m; e = k; is = (refl, refl) }
+on-whole k m = record { m = m; e = k; written = (refl, refl) }
 
 even-whole : (k m : ℕ) → m % 2 ≡ 0 → EvenMag (whole k) (m * 2 ^ k)
-even-whole k m h = record { m = m; e = k; is = (refl, refl); least = λ m′ e′ w. le-of-eq (sym (w .0)); even = h }
+even-whole k m h = record { m = m; e = k; written = (refl, refl); least = λ m′ e′ w. le-of-eq (sym (w .0)); even = h }
 
 odd-whole : (k m : ℕ) → m % 2 ≡ 1 → EvenMag (whole k) (m * 2 ^ k) → ⊥
 odd-whole k m h v =
-    let a : m * 2 ^ k ≡ v .m * 2 ^ k = v .is .1 ∙ ap (λ (x : ℕ). v .m * 2 ^ x) (v .is .0) in
+    let a : m * 2 ^ k ≡ v .m * 2 ^ k = v .written .1 ∙ ap (λ (x : ℕ). v .m * 2 ^ x) (v .written .0) in
     let b : m ≡ v .m = eq-of-mul-eq-mul-right (2 ^ k) (pow-pos k) m (v .m) a in
     omega (arith, v .even)
 
 gap-whole : (k q z : ℕ) → OnMag (whole k) z → (z ≤ q * 2 ^ k) ⊎ (suc q * 2 ^ k ≤ z)
-gap-whole k q z v = subst (λ (x : ℕ). (x ≤ q * 2 ^ k) ⊎ (suc q * 2 ^ k ≤ x)) (sym (v .is .1 ∙ ap (λ (x : ℕ). v .m * 2 ^ x) (v .is .0))) (next (v .m) q (2 ^ k))
+gap-whole k q z v = subst (λ (x : ℕ). (x ≤ q * 2 ^ k) ⊎ (suc q * 2 ^ k ≤ x)) (sym (v .written .1 ∙ ap (λ (x : ℕ). v .m * 2 ^ x) (v .written .0))) (next (v .m) q (2 ^ k))
 
 even-suc : (q : ℕ) → q % 2 ≡ 1 → suc q % 2 ≡ 0
 even-suc q h = omega arith
@@ -131,13 +130,13 @@ module _ (p s k m : ℕ) (two : 2 ≤ p) (sk : s ≤ k) (small : m ≤ 2 ^ p) (f
 
   on-float : OnMag (float p s) (m * 2 ^ k)
   on-float = cut m (2 ^ p)
-      (λ (h : m < 2 ^ p). record { m = m; e = k; is = at-k h })
-      (λ (h : 2 ^ p ≤ m). record { m = 2 ^ (p - 1); e = suc k; is = at-top h })
+      (λ (h : m < 2 ^ p). record { m = m; e = k; written = at-k h })
+      (λ (h : 2 ^ p ≤ m). record { m = 2 ^ (p - 1); e = suc k; written = at-top h })
 
   even-float : m % 2 ≡ 0 → EvenMag (float p s) (m * 2 ^ k)
   even-float v = cut m (2 ^ p)
-      (λ (h : m < 2 ^ p). record { m = m; e = k; is = at-k h; least = no-less; even = v })
-      (λ (h : 2 ^ p ≤ m). record { m = 2 ^ (p - 1); e = suc k; is = at-top h; least = λ m′ e′ w. not-k m′ e′ h w; even = half-even p two })
+      (λ (h : m < 2 ^ p). record { m = m; e = k; written = at-k h; least = no-less; even = v })
+      (λ (h : 2 ^ p ≤ m). record { m = 2 ^ (p - 1); e = suc k; written = at-top h; least = λ m′ e′ w. not-k m′ e′ h w; even = half-even p two })
     where
       half-even : (p : ℕ) → 2 ≤ p → 2 ^ (p - 1) % 2 ≡ 0
       half-even p h = omega (arith, pow-twice-pred (p - 1) (omega arith))
@@ -145,16 +144,16 @@ module _ (p s k m : ℕ) (two : 2 ≤ p) (sk : s ≤ k) (small : m ≤ 2 ^ p) (f
   odd-float : m % 2 ≡ 1 → EvenMag (float p s) (m * 2 ^ k) → ⊥
   odd-float o v =
       let h : m < 2 ^ p = omega (arith, pow-twice-pred p P) in
-      let e : v .e ≡ k = omega (arith, v .least m k (at-k h), no-less (v .m) (v .e) (v .is)) in
-      let a : m * 2 ^ k ≡ v .m * 2 ^ k = v .is .2 ∙ ap (λ (x : ℕ). v .m * 2 ^ x) e in
+      let e : v .e ≡ k = omega (arith, v .least m k (at-k h), no-less (v .m) (v .e) (v .written)) in
+      let a : m * 2 ^ k ≡ v .m * 2 ^ k = v .written .2 ∙ ap (λ (x : ℕ). v .m * 2 ^ x) e in
       let b : m ≡ v .m = eq-of-mul-eq-mul-right (2 ^ k) (pow-pos k) m (v .m) a in
       omega (arith, v .even)
 
   pub gap-float : (z : ℕ) → OnMag (float p s) z → (z ≤ m * 2 ^ k) ⊎ (suc m * 2 ^ k ≤ z)
   gap-float z v = cut (v .e) k
-      (λ (h : v .e < k). let f = mul-le-mul-right (2 ^ k) (full (lt-of-le-of-lt (v .is .1) h)) in
-      inl (omega (arith, short p (v .m) (v .e) k P (v .is .0) h, f, v .is .2)))
-      (λ (h : k ≤ v .e). subst (λ (x : ℕ). (x ≤ m * 2 ^ k) ⊎ (suc m * 2 ^ k ≤ x)) (sym (v .is .2 ∙ as-units (v .m) (v .e) k h)) (next (v .m * 2 ^ (v .e - k)) m (2 ^ k)))
+      (λ (h : v .e < k). let f = mul-le-mul-right (2 ^ k) (full (lt-of-le-of-lt (v .written .1) h)) in
+      inl (omega (arith, short p (v .m) (v .e) k P (v .written .0) h, f, v .written .2)))
+      (λ (h : k ≤ v .e). subst (λ (x : ℕ). (x ≤ m * 2 ^ k) ⊎ (suc m * 2 ^ k ≤ x)) (sym (v .written .2 ∙ as-units (v .m) (v .e) k h)) (next (v .m * 2 ^ (v .e - k)) m (2 ^ k)))
 
 -- ---- the unit at n
 pub kept-lt : (p s n : ℕ) → n / 2 ^ max s (size n - p) < 2 ^ p
@@ -192,4 +191,4 @@ cell (float p s) h n = cell-float p s n h
 
 -- ---- a number of a float's grid is one of every finer grid
 pub finer : (p s p′ s′ n : ℕ) → p ≤ p′ → s′ ≤ s → OnMag (float p s) n → OnMag (float p′ s′) n
-finer p s p′ s′ n a b on = record { m = on .m; e = on .e; is = (lt-of-lt-of-le (on .is .0) (pow-mono a), le-trans b (on .is .1), on .is .2) }
+finer p s p′ s′ n a b on = record { m = on .m; e = on .e; written = (lt-of-lt-of-le (on .written .0) (pow-mono a), le-trans b (on .written .1), on .written .2) }

@@ -1,5 +1,4 @@
 -- Of two picks by one rule on one grid, the larger number has the pick that is no smaller.
--- Assumes nothing.
 use mathlib.Core.Path.{_≡_, refl, sym, ap, subst}
 use mathlib.Core.Logic.{_≢_}
 use Prim.Native.Nat.{_^_}
@@ -14,8 +13,8 @@ use Rattle.grid.specs.Pick.{IsNearest, Preferred, IsPick, dist}
 use Rattle.grid.proofs.Int.{up, dn, ints, split, →eq, dist-up, dist-dn}
 
 pub zero-on : (g : Grid) → OnGrid g (pos 0)
-zero-on (whole k) = record { m = 0; e = k; is = (refl, sym (zero-mul (2 ^ k))) }
-zero-on (float p s) = record { m = 0; e = s; is = (pow-pos p, omega ints, sym (zero-mul (2 ^ s))) }
+zero-on (whole k) = record { m = 0; e = k; written = (refl, sym (zero-mul (2 ^ k))) }
+zero-on (float p s) = record { m = 0; e = s; written = (pow-pos p, omega ints, sym (zero-mul (2 ^ s))) }
 
 -- equal numbers have equal parts
 part : {x y : ℤ} → x ≡ y → (up x ≡ up y) × (dn x ≡ dn y)

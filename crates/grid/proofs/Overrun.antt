@@ -1,5 +1,4 @@
 -- A pick past the largest finite number, (2^p - 1) × 2^k, is one of magnitude 2^(p + k) or more.
--- Assumes nothing.
 use mathlib.Core.Path.{_≡_, ap, sym, _∙_}
 use mathlib.Core.Logic.{⊎-elim}
 use Prim.Native.Nat.{ℕ, suc, _+_, _-_, _*_, _^_, _≤_, _<_}

@@ -1,5 +1,4 @@
--- Grids. "each finite element and each grid number of these kinds is a whole multiple of 2^-1074, and that multiple stands for it."
--- Assumes nothing.
+-- To be believed: grids. "each finite element and each grid number of these kinds is a whole multiple of 2^-1074, and that multiple stands for it."
 use mathlib.Core.Path.{_≡_}
 use Prim.Native.Nat.{ℕ, _*_, _%_, _^_, _≤_, _<_}
 use lib.IntN.{ℤ, natAbs}
@@ -17,13 +16,13 @@ Written (float p s) n m e = (m < 2 ^ p) × (s ≤ e) × (n ≡ m * 2 ^ e)
 pub record OnMag (g : Grid) (n : ℕ) : Type 0 where
   pub m : ℕ
   pub e : ℕ
-  pub is : Written g n m e
+  pub written : Written g n m e
 
 -- "Such a number is even when m is even at the least e that it can be written with."
 pub record EvenMag (g : Grid) (n : ℕ) : Type 0 where
   pub m : ℕ
   pub e : ℕ
-  pub is : Written g n m e
+  pub written : Written g n m e
   pub least : (m′ e′ : ℕ) → Written g n m′ e′ → e ≤ e′
   pub even : m % 2 ≡ 0
 

@@ -1,5 +1,4 @@
--- What it is to be the pick of a rounding rule: the meaning of rounding, with no algorithm in it.
--- Assumes nothing.
+-- To be believed: what it is to be the pick of a rounding rule: the meaning of rounding, with no algorithm in it.
 use mathlib.Core.Path.{_≡_}
 use mathlib.Core.Logic.{_≢_}
 use Prim.Native.Nat.{ℕ, _≤_, _<_}

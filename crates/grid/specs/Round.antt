@@ -1,5 +1,4 @@
--- The pick, computed. That it is the pick is `picked`, and that there is no other is `unique`, in proofs/.
--- Assumes nothing.
+-- To be believed: the pick, computed. That it is the pick is `picked`, and that there is no other is `unique`, in proofs/.
 use mathlib.Core.Bool.{Bool, true, false, cond}
 use Prim.Native.Nat.{ℕ, suc, _-_, _*_, _/_, _%_, _^_, max}
 use lib.IntN.{ℤ, pos, negsuc, negℤ}

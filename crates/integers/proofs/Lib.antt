@@ -5,3 +5,4 @@ pub mod Scale
 pub mod Patterns
 pub mod Magnitudes
 pub mod Rounded
+pub mod Bounds

@@ -1,5 +1,4 @@
 -- The sign and the magnitude of an integer kind's pattern: what a program computes, and that they are those of its number.
--- Assumes nothing.
 use mathlib.Core.Path.{_≡_, refl, sym, ap, _∙_}
 use mathlib.Core.Bool.{Bool, true, false, cond, true≢false}
 use mathlib.Core.Logic.{_⊎_, inl, inr}

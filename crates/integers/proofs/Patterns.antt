@@ -1,5 +1,4 @@
 -- The bits of a finite float, `lib.Ieee.toBits`, are the pattern of its number and its sign, at a zero too. Once for both formats.
--- Assumes nothing.
 use mathlib.Core.Path.{_≡_, refl, sym, ap, ap₂, subst, _∙_}
 use mathlib.Core.Bool.{Bool, true, false, not, cond}
 use Prim.Native.Nat.{ℕ, zero, suc, _+_, _-_, _*_, _/_, _%_, _^_, _≤_, _<_, max}
@@ -93,20 +92,10 @@ toBits-of-whole f x s n h =
     together : (n l d k : ℕ) → l + d ≡ k → n * 2 ^ l * 2 ^ d ≡ n * 2 ^ k
     together n l d k e = mul-assoc n (2 ^ l) (2 ^ d) ∙ ap (λ (z : ℕ). n * z) (sym (pow-add 2 l d) ∙ ap (λ (z : ℕ). 2 ^ z) e)
 
--- ---- the sign's bit, put over the bits of a number that is not below zero
-module _ (x : Float) (n : ℕ) (h : HasValue x false n 1) where
-  pub signed-bits : (s : Bool) → toBits binary64 x + boolByte s * 2 ^ 63 % 2 ^ 64 ≡ patternOf f64 s (signed s (n * 2 ^ 1074))
-  unfolding patternOf
-  signed-bits s = ap (λ (z : ℕ). z + boolByte s * 2 ^ 63 % 2 ^ 64) (toBits-of-whole binary64 x false n h) ∙ go s (magBits 53 0 (n * 2 ^ 1074)) ∙ ap (λ (z : ℕ). withSign 64 s (magBits 53 0 z)) (sym (abs-signed s (n * 2 ^ 1074)))
-    where
-      go : (s : Bool) (b : ℕ) → b + boolByte s * 2 ^ 63 % 2 ^ 64 ≡ withSign 64 s b
-      go true b = omega arith
-      go false b = omega arith
-
-  -- the bits of the negative number are of 64 bits too
-  pub signed-bits-fit : fits binary64 x ≡ true → (s : Bool) → toBits binary64 x + boolByte s * 2 ^ 63 % 2 ^ 64 < 2 ^ 64
-  signed-bits-fit f false = omega (arith, toBits-lt binary64 x (subst T (sym f) tt))
-  signed-bits-fit f true = subst (λ (z : ℕ). z < 2 ^ 64) (toBits-of-whole binary64 (neg x) true n (negated x n 1 h) ∙ sym (signed-bits true)) (toBits-lt binary64 (neg x) (neg-fits binary64 x (subst T (sym f) tt)))
+-- its bits below the sign, where it is not below zero
+pub whole-bits : (x : Float) (n : ℕ) → HasValue x false n 1 → toBits binary64 x ≡ magBits 53 0 (n * 2 ^ 1074)
+unfolding patternOf
+whole-bits x n h = toBits-of-whole binary64 x false n h
 
 -- ---- a float with a value is no NaN
 pub valued-no-nan : (x : Float) (s : Bool) (n d : ℕ) → HasValue x s n d → T (not (isNan x))

@@ -1,5 +1,4 @@
 -- A magnitude rounded to p significant bits, as the float that a program computes.
--- Assumes nothing.
 use mathlib.Core.Path.{_≡_, sym, ap, ap₂, subst, _∙_}
 use mathlib.Core.Bool.{Bool, true, false, cond}
 use Prim.Native.Nat.{ℕ, _+_, _-_, _*_, _/_, _%_, _^_, _≤_, _<_}
@@ -27,7 +26,7 @@ module _ (p m : ℕ) (ok : Precision p) where
   -- ---- no digit is dropped
   pub few-digits : (r : RoundingMode) → size m ≤ p → HasValue (ofInt binary64 (pos m)) false (pickMag (float p 0) r m) 1
   few-digits r h =
-      let l : m ≤ 2 ^ 53 = omega (arith, size-lt m, pow-mono {i = size m} {j = 53} (omega (arith, ok .most))) in
+      let l : m ≤ 2 ^ 53 = omega (arith, size-lt m, pow-mono {i = size m} {j = 53} (omega (arith, ok .at-most-53))) in
       let a = subst (λ (z : ℕ). HasValue (ofInt binary64 (pos z)) false z 1) (mul-one m) (ofInt-exact binary64 m 0 (omega arith) l) in
       let b = subst (λ (z : ℕ). pickMag (float p 0) r z ≡ z) (mul-one m) (pick-few-digits p 0 r m 0 (omega arith) h) in
       subst (λ (z : ℕ). HasValue (ofInt binary64 (pos m)) false z 1) (sym b) a
@@ -35,7 +34,7 @@ module _ (p m : ℕ) (ok : Precision p) where
   -- ---- k digits are dropped
   module _ (k : ℕ) (is : p + k ≡ size m) (word : m < 2 ^ 64) where
     pub shift-lt : k < 63
-    shift-lt = omega (arith, ok .least, size-le m 64 word)
+    shift-lt = omega (arith, ok .two, size-le m 64 word)
 
     kept-is : m / 2 ^ k * 2 ^ k % 2 ^ 64 ≡ m / 2 ^ k * 2 ^ k
     kept-is = mod-eq-of-lt (omega (arith, div-add-mod' m (2 ^ k)))
@@ -54,7 +53,7 @@ module _ (p m : ℕ) (ok : Precision p) where
 
     -- one unit or none, as the step says
     carried : (t : Bool) → m / 2 ^ k + cond t 1 0 ≤ 2 ^ 53
-    carried t = le-trans (go t (shr-lt p k (subst (λ (z : ℕ). m < 2 ^ z) (sym is) (size-lt m)))) (pow-mono (ok .most))
+    carried t = le-trans (go t (shr-lt p k (subst (λ (z : ℕ). m < 2 ^ z) (sym is) (size-lt m)))) (pow-mono (ok .at-most-53))
       where
         go : (t : Bool) → m / 2 ^ k < 2 ^ p → m / 2 ^ k + cond t 1 0 ≤ 2 ^ p
         go true h = omega arith

@@ -1,5 +1,4 @@
--- An integer kind's pattern by sign and magnitude: "one element form (integer sign and magnitude, or float)".
--- Assumes nothing.
+-- Internal: an integer kind's pattern by sign and magnitude: "one element form (integer sign and magnitude, or float)".
 use mathlib.Core.Bool.{false, cond}
 use Prim.Native.Nat.{ℕ, _-_, _^_, _≤_, _<_}
 use Rattle.patterns.specs.Kind.{Kind, integer, binary}
@@ -8,8 +7,8 @@ use Rattle.integers.specs.declared.Integer.{Integer}
 
 -- a pattern of n bits, at most 64
 pub record IntegerPattern (b n : ℕ) : Type 0 where
-  pub some : 0 < n
-  pub most : n ≤ 64
+  pub positive : 0 < n
+  pub at-most-64 : n ≤ 64
   pub fits : b < 2 ^ n
 
 -- a pattern below zero lies 2^n above its number; a float kind has no such pair, and 0 stands there

@@ -1,5 +1,4 @@
--- An integer rounded once to a float's precision: "The kept part plus one unit is added in f64 and is exact, so a carry may reach 2^64."
--- Assumes nothing.
+-- Internal: an integer rounded once to a float's precision: "The kept part plus one unit is added in f64 and is exact, so a carry may reach 2^64."
 use mathlib.Core.Bool.{Bool, false}
 use Prim.Native.Nat.{ℕ, _≤_}
 use lib.Dec.{ltb}
@@ -9,9 +8,9 @@ use Rattle.grid.specs.declared.RoundingMode.{RoundingMode}
 use Rattle.grid.specs.Round.{step}
 
 -- "for at most 53 significant bits": a precision that has even and odd numbers, and that an f64 holds
-pub record Precision (digits : ℕ) : Type 0 where
-  pub least : 2 ≤ digits
-  pub most : digits ≤ 53
+pub record Precision (p : ℕ) : Type 0 where
+  pub two : 2 ≤ p
+  pub at-most-53 : p ≤ 53
 
 -- the float x is the number n: nothing is lost
 pub record Exactly (n : ℕ) (x : Float) : Type 0 where

@@ -5,7 +5,8 @@ ghost use lib.Ieee.{size};
 ghost use Rattle.grid.specs.Grid.{float};
 ghost use Rattle.grid.specs.Round.{pick, pickMag, ruleFor, signed};
 ghost use Rattle.patterns.specs.Kind.{integer, f64};
-ghost use Rattle.patterns.specs.Pattern.{patternOf};
+ghost use Rattle.grid.specs.declared.RoundingMode.the-variants.{NearestEven};
+ghost use Rattle.patterns.specs.Pattern.{magBits, patternOf};
 ghost use Rattle.integers.specs.Magnitude.{IntegerPattern, magnitudeOf};
 ghost use Rattle.integers.specs.Precision.{Precision, Exactly, stepsUp};
 use grid::RoundingMode;
@@ -26,7 +27,7 @@ pub fn int_magnitude(b: u64, signed: bool, bits: u32) -> Integer
     let opposite = std::num::wrapping_sub_u64(half, std::num::wrapping_sub_u64(b, half));
     Integer {
         negative: negative,
-        magnitude: select::choose(negative, b, opposite),
+        magnitude: select::choose(negative, opposite, b),
     }
 }
 
@@ -52,21 +53,21 @@ fn rounds_up(mode: RoundingMode, negative: bool, q: u64, rest: u64, unit: u64) -
     }
 }
 
-// The magnitude rounded to `digits` significant bits: its kept part, and one unit more where the rule says so, added with no rounding.
+// The magnitude rounded to `precision` significant bits: its kept part, and one unit more where the rule says so, added with no rounding.
 pub fn round_int_to_precision(
     magnitude: u64,
     negative: bool,
-    digits: u32,
+    precision: u32,
     mode: RoundingMode,
 ) -> f64
-    requires { ⌜ Precision digits ⌝ }
-    ensures { λ r. ⌜ Exactly (pickMag (float digits 0) (ruleFor negative mode) magnitude) r ⌝ }
+    requires { ⌜ Precision precision ⌝ }
+    ensures { λ r. ⌜ Exactly (pickMag (float precision 0) (ruleFor negative mode) magnitude) r ⌝ }
 {
     let significant = significant_bits(magnitude);
-    if significant <= digits {
+    if significant <= precision {
         return std::num::nearest_u64_to_f64(magnitude);
     }
-    let shift = significant - digits;
+    let shift = significant - precision;
     let q = magnitude >> shift;
     let kept = q << shift;
     let unit = 1u64 << shift;
@@ -75,11 +76,23 @@ pub fn round_int_to_precision(
     std::num::nearest_u64_to_f64(kept) + std::num::nearest_u64_to_f64(more)
 }
 
-// The f64 pattern of the integer rounded once to `digits` significant bits. A zero keeps the sign that is given.
-pub fn int_to_f64_bits(magnitude: u64, negative: bool, digits: u32, mode: RoundingMode) -> u64
-    requires { ⌜ Precision digits ⌝ }
-    ensures { λ r. ⌜ r ≡ patternOf f64 negative (pick (float digits 0) mode (signed negative (magnitude * 2 ^ 1074))) ⌝ }
+// The f64 bits below the sign of the integer rounded once to `precision` significant bits.
+pub fn int_to_f64_magnitude(
+    magnitude: u64,
+    negative: bool,
+    precision: u32,
+    mode: RoundingMode,
+) -> u64
+    requires { ⌜ Precision precision ⌝ }
+    ensures { λ r. ⌜ r ≡ magBits 53 0 (pickMag (float precision 0) (ruleFor negative mode) magnitude * 2 ^ 1074) ⌝ }
 {
-    let x = f64::to_bits(round_int_to_precision(magnitude, negative, digits, mode));
-    x + ((negative as u64) << 63)
+    f64::to_bits(round_int_to_precision(magnitude, negative, precision, mode))
+}
+
+// The nearest f64 of an integer, halfway the even one. A zero keeps the sign that is given.
+pub fn nearest_f64(magnitude: u64, negative: bool) -> u64
+    ensures { λ r. ⌜ r ≡ patternOf f64 negative (pick (float 53 0) NearestEven (signed negative (magnitude * 2 ^ 1074))) ⌝ }
+{
+    let bits = int_to_f64_magnitude(magnitude, negative, 53, RoundingMode::NearestEven);
+    bits + ((negative as u64) << 63)
 }

@@ -1,82 +1,51 @@
--- The listed kinds: the codes 0 to 7 are integer kinds of at most 64 bits, and what their rows hold.
--- Assumes nothing.
-use mathlib.Core.Path.{_≡_, sym, ap, ap₂, subst, _∙_}
+-- The listed kinds: what the row of a code holds, and that it gives its kind back.
+use mathlib.Core.Path.{_≡_, refl, sym, ap, subst}
 use mathlib.Core.Bool.{Bool, true, false}
+use mathlib.Core.Logic.{inl, inr}
 use Prim.Native.Nat.{ℕ, _-_, _*_, _^_, _≤_, _<_}
 use native.Mathlib.Omega.{arith}
 use lib.Pow.{pow-mono, pow-pos}
 use borrow.Author.Tests.{le-ltb, lt-ltb}
-use Rattle.patterns.specs.Kind.{Kind, bits, highInt, highest, integer, lowInt, lowest}
-use Rattle.kinds.specs.declared.KindRow.{KindRow}
 use Rattle.grid.proofs.Neighbours.{cut}
+use Rattle.patterns.specs.Kind.{Kind, integer, f32, f64, width}
 use Rattle.kinds.specs.Codes.{kindOf}
-use Rattle.kinds.specs.Row.{rowOf, integerOf, IntegerRow}
-use Rattle.grid.specs.Round.{signed}
+use Rattle.kinds.specs.Row.{integerFormat, formatOf, rowOf, kindIn, IntegerRow, FormatRow}
+use Rattle.kinds.specs.declared.KindRow.{KindRow}
 
--- ---- the kinds of the codes 0 to 7
-pub record IntegerKind (k : Kind) : Type 0 where
-  pub s : Bool
-  pub n : ℕ
-  pub is : k ≡ integer s n
-  pub some : 0 < n
-  pub most : n ≤ 64
+-- what holds of each listed kind holds of a listed code's
+pub by-kind {ℓ} : (P : Kind → Type ℓ) → ((s : Bool) (c : ℕ) → c < 4 → P (integer s (8 * 2 ^ c))) → P f32 → P f64 → (code : ℕ) → code < 10 → P (kindOf code)
+by-kind P i f g code h = cut code 4
+    (λ (l : code < 4). subst P (sym (signed l)) (i true code l))
+    (λ (l : 4 ≤ code). cut code 8
+    (λ (m : code < 8). subst P (sym (unsigned l m)) (i false (code - 4) (omega arith)))
+    (λ (m : 8 ≤ code). cut code 9
+    (λ (n : code < 9). subst (λ (c : ℕ). P (kindOf c)) (eight m n) f)
+    (λ (n : 9 ≤ code). subst (λ (c : ℕ). P (kindOf c)) (nine n h) g)))
+  where
+    signed : code < 4 → kindOf code ≡ integer true (8 * 2 ^ code)
+    signed l = simp (lt-ltb code 4 l)
 
-pub integer-kind : (code : ℕ) → code < 8 → IntegerKind (kindOf code)
-integer-kind code h = cut code 4
-    (λ (l : code < 4). record {
-      s = true;
-      n = 8 * 2 ^ code;
-      is = simp (lt-ltb code 4 l);
-      some = omega (arith, pow-pos code);
-      most = omega (arith, pow-mono {i = code} {j = 3} (omega arith));
-    })
-    (λ (l : 4 ≤ code). record {
-      s = false;
-      n = 8 * 2 ^ (code - 4);
-      is = simp (le-ltb code 4 l, lt-ltb code 8 h);
-      some = omega (arith, pow-pos (code - 4));
-      most = omega (arith, pow-mono {i = code - 4} {j = 3} (omega arith));
-    })
+    unsigned : 4 ≤ code → code < 8 → kindOf code ≡ integer false (8 * 2 ^ (code - 4))
+    unsigned l m = simp (le-ltb code 4 l, lt-ltb code 8 m)
 
--- ---- what a program reads off the row
-module _ (k : Kind) (i : IntegerKind k) (row : KindRow) (is : row ≡ rowOf k) where
-  row-is : row ≡ rowOf (integer (i .s) (i .n))
-  row-is = is ∙ ap rowOf (i .is)
+    eight : 8 ≤ code → code < 9 → 8 ≡ code
+    eight m n = omega arith
 
-  pub bits-is : row .bits ≡ i .n
-  unfolding rowOf
-  bits-is = ap (λ (r : KindRow). r .bits) row-is
+    nine : 9 ≤ code → code < 10 → 9 ≡ code
+    nine m n = omega arith
 
-  pub signed-is : row .signed ≡ i .s
-  unfolding rowOf
-  signed-is = ap (λ (r : KindRow). r .signed) row-is
+-- ---- the row
+integer-row : (s : Bool) (c : ℕ) → c < 4 → IntegerRow (integerFormat s (8 * 2 ^ c))
+integer-row s c h = record { positive = omega (arith, pow-pos c); at-most-64 = omega (arith, pow-mono {i = c} {j = 3} (omega arith)); low = refl; high = refl }
 
-  pub highest-is : row .highest ≡ highInt (i .s) (i .n)
-  unfolding rowOf
-  highest-is = ap (λ (r : KindRow). r .highest) row-is
+-- the bytes of an element
+pub row-width : (k : Kind) (row : KindRow) → row ≡ rowOf k → row .bytes ≡ width k
+row-width k row e = ap (λ (r : KindRow). r .bytes) e
 
-  pub lowest-is : row .lowest ≡ lowInt (i .s) (i .n)
-  unfolding rowOf
-  lowest-is = ap (λ (r : KindRow). r .lowest) row-is
+pub format-row : (code : ℕ) → code < 10 → FormatRow (formatOf (kindOf code))
+unfolding formatOf
+format-row code h = by-kind (λ (k : Kind). FormatRow (formatOf k)) integer-row (inl refl) (inr refl) code h
 
--- ---- the row of a listed integer kind
-module _ (code : ℕ) (listed : code < 8) (row : KindRow) (is : row ≡ rowOf (kindOf code)) where
-  abbrev i : IntegerKind (kindOf code)
-  i = integer-kind code listed
-
-  bits-are : row .bits ≡ i .n
-  bits-are = bits-is (kindOf code) i row is
-
-  sign-is : row .signed ≡ i .s
-  sign-is = signed-is (kindOf code) i row is
-
-  pub integer-of : integerOf row ≡ kindOf code
-  integer-of = ap₂ integer sign-is bits-are ∙ sym (i .is)
-
-  pub integer-row : IntegerRow row
-  integer-row = record {
-    some = subst (λ (z : ℕ). 0 < z) (sym bits-are) (i .some);
-    most = subst (λ (z : ℕ). z ≤ 64) (sym bits-are) (i .most);
-    low = lowest-is (kindOf code) i row is ∙ sym (ap₂ lowInt sign-is bits-are);
-    high = highest-is (kindOf code) i row is ∙ sym (ap₂ highInt sign-is bits-are);
-  }
+pub kind-back : (code : ℕ) → code < 10 → kindIn (formatOf (kindOf code)) ≡ kindOf code
+unfolding formatOf
+kind-back code h = by-kind (λ (k : Kind). kindIn (formatOf k) ≡ k) (λ s c l. refl) refl refl code h

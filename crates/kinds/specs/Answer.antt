@@ -1,5 +1,4 @@
--- The paper's number and position of an answer. "Refused means that the answer is 6 .. or 7 .. with this element's position".
--- Assumes nothing.
+-- To be believed: the paper's number and position of an answer. "Refused means that the answer is 6 .. or 7 .. with this element's position".
 use Prim.Native.Nat.{ℕ}
 use Rattle.kinds.specs.declared.Answer.{Answer}
 use Rattle.kinds.specs.declared.Answer.the-variants.{Converted, UnknownCode, BrokenMap, BrokenElement, LengthMismatch, NanOrInf, OutOfRange, FloatOutOfRange}

@@ -1,5 +1,4 @@
--- The codes of a call: kinds, roundings and range choices.
--- Assumes nothing.
+-- To be believed: the codes of a call: kinds, roundings and range choices.
 use mathlib.Core.Bool.{true, false, cond}
 use Prim.Native.Nat.{ℕ, zero, suc, _-_, _*_, _^_}
 use lib.Dec.{eqb, ltb}

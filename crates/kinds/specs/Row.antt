@@ -1,47 +1,54 @@
--- The one rule of the table: a kind's row follows from what the kind is.
--- Assumes nothing.
+-- Internal: the one rule of the table: a kind's row follows from what the kind is.
 use mathlib.Core.Path.{_≡_}
-use mathlib.Core.Bool.{true, false}
-use Prim.Native.Nat.{_+_, _-_, _/_, _≤_, _<_}
-use lib.IntN.{pos}
-use Rattle.patterns.specs.Kind.{Kind, integer, binary, bits, lowInt, highInt}
+use mathlib.Core.Bool.{Bool, true, false}
+use mathlib.Core.Logic.{_⊎_}
+use Prim.Native.Nat.{ℕ, _+_, _-_, _^_, _≤_, _<_}
+use Rattle.patterns.specs.Kind.{Kind, integer, binary, width, lowInt, highInt}
 use Rattle.patterns.specs.Pattern.{asF64, infinity}
+use Rattle.kinds.specs.declared.IntegerFormat.{IntegerFormat}
+use Rattle.kinds.specs.declared.FloatFormat.{FloatFormat}
+use Rattle.kinds.specs.declared.Format.{Format}
+use Rattle.kinds.specs.declared.Format.the-variants.{Integer, Float}
 use Rattle.kinds.specs.declared.KindRow.{KindRow}
 
+abbrev pub integerFormat : Bool → ℕ → IntegerFormat
+integerFormat s n = record { bits = n; signed = s; lowest = lowInt s n; highest = highInt s n }
+
 -- the largest finite float's pattern is the one before the infinity's
-unfoldable pub rowOf : Kind → KindRow
-rowOf (integer s n) = record {
-  bytes = n / 8;
-  bits = n;
-  float = false;
-  signed = s;
-  precision = 0;
-  spacing = 1074;
-  lowest = lowInt s n;
-  highest = highInt s n;
-  min = 0;
-  max = 0;
-}
-rowOf (binary p w s) = record {
-  bytes = (w + p) / 8;
-  bits = w + p;
-  float = true;
-  signed = true;
-  precision = p;
-  spacing = s;
-  lowest = pos 0;
-  highest = 0;
-  min = asF64 (binary p w s) (infinity p w true - 1);
-  max = asF64 (binary p w s) (infinity p w false - 1);
-}
+abbrev pub floatFormat : ℕ → ℕ → ℕ → FloatFormat
+floatFormat p w s = record { precision = p; «exponent_bits» = w; lowest = asF64 (binary p w s) (infinity p w true - 1); highest = asF64 (binary p w s) (infinity p w false - 1) }
 
--- the integer kind that a row is of
-abbrev pub integerOf : KindRow → Kind
-integerOf row = integer (row .signed) (row .bits)
+unfoldable pub formatOf : Kind → Format
+formatOf (integer s n) = Integer (integerFormat s n)
+formatOf (binary p w s) = Float (floatFormat p w s)
 
--- a row of an integer kind of at most 64 bits, with its ends
-pub record IntegerRow (row : KindRow) : Type 0 where
-  pub some : 0 < row .bits
-  pub most : row .bits ≤ 64
-  pub low : row .lowest ≡ lowInt (row .signed) (row .bits)
-  pub high : row .highest ≡ highInt (row .signed) (row .bits)
+abbrev pub rowOf : Kind → KindRow
+rowOf k = record { bytes = width k; format = formatOf k }
+
+-- ---- the kind that a format is of
+
+abbrev pub integerOf : IntegerFormat → Kind
+integerOf f = integer (f .signed) (f .bits)
+
+-- the exponents of an interchange format are centred: its smallest spacing follows from its precision and its exponent field
+abbrev pub floatOf : FloatFormat → Kind
+floatOf f = binary (f .precision) (f .«exponent_bits») (1077 - (2 ^ (f .«exponent_bits» - 1) + f .precision))
+
+abbrev pub kindIn : Format → Kind
+kindIn (Integer f) = integerOf f
+kindIn (Float f) = floatOf f
+
+-- an integer format of at most 64 bits, with its ends
+pub record IntegerRow (f : IntegerFormat) : Type 0 where
+  pub positive : 0 < f .bits
+  pub at-most-64 : f .bits ≤ 64
+  pub low : f .lowest ≡ lowInt (f .signed) (f .bits)
+  pub high : f .highest ≡ highInt (f .signed) (f .bits)
+
+-- the format of f32 or of f64
+abbrev pub FloatRow : FloatFormat → Type 0
+FloatRow f = (f ≡ floatFormat 24 8 925) ⊎ (f ≡ floatFormat 53 11 0)
+
+abbrev pub FormatRow : Format → Type 0
+FormatRow (Integer f) = IntegerRow f
+FormatRow (Float f) = FloatRow f

@@ -1,6 +1,8 @@
 // The ten number kinds in one constant table, the codes of a call, and what a call or one element of it can answer.
 ghost use mathlib.Core.Path.{_≡_};
+ghost use mathlib.Core.Bool.{_&&_};
 ghost use Prim.Native.Nat.{_<_};
+ghost use lib.Dec.{ltb};
 ghost use Rattle.kinds.specs.Codes.{kindOf, roundingOf, rangeOf};
 ghost use Rattle.kinds.specs.Row.{rowOf};
 ghost use Rattle.kinds.specs.Answer.{numberOf, positionOf};
@@ -55,153 +57,179 @@ pub enum Answer {
     },
 }
 
-// A kind's bytes, bits and ends. `spacing` is the exponent of its smallest spacing, counted from 2^-1074. An integer kind has `lowest` and
-// `highest`; a float kind has `precision`, and -MAX and MAX as f64 patterns in `min` and `max`. What a kind has not is 0.
-pub struct KindRow {
-    pub bytes: usize,
-    pub bits: u32,
-    pub float: bool,
-    pub signed: bool,
-    pub precision: u32,
-    pub spacing: u32,
-    pub lowest: i64,
-    pub highest: u64,
-    pub min: u64,
-    pub max: u64,
+// What a conversion leaves of an element: the target pattern to store, or why there is none.
+pub enum Fit {
+    Pattern(u64),
+    NotFinite,
+    OutOfRange,
 }
 
+// An integer kind: its bits, whether it is two's complement, and its ends.
+pub struct IntegerFormat {
+    pub bits: u32,
+    pub signed: bool,
+    pub lowest: i64,
+    pub highest: u64,
+}
+
+// A float kind: its significant bits, the bits of its exponent field, and -MAX and MAX as f64 patterns.
+pub struct FloatFormat {
+    pub precision: u32,
+    pub exponent_bits: u32,
+    pub lowest: u64,
+    pub highest: u64,
+}
+
+// What a kind is.
+pub enum Format {
+    Integer(IntegerFormat),
+    Float(FloatFormat),
+}
+
+// The bytes of a kind's elements, and what the kind is.
+pub struct KindRow {
+    pub bytes: usize,
+    pub format: Format,
+}
+
+// How many kind codes, rounding codes and range codes are listed: those from 0 on.
+const LISTED_KINDS: u8 = 10;
+
+const LISTED_ROUNDINGS: u8 = 5;
+
+const LISTED_RANGES: u8 = 3;
+
+// ---- the formats of the ten kinds
+
+const I8: IntegerFormat = IntegerFormat {
+    bits: 8,
+    signed: true,
+    lowest: -128,
+    highest: 127,
+};
+
+const I16: IntegerFormat = IntegerFormat {
+    bits: 16,
+    signed: true,
+    lowest: -32768,
+    highest: 32767,
+};
+
+pub const I32: IntegerFormat = IntegerFormat {
+    bits: 32,
+    signed: true,
+    lowest: -2147483648,
+    highest: 2147483647,
+};
+
+pub const I64: IntegerFormat = IntegerFormat {
+    bits: 64,
+    signed: true,
+    lowest: -9223372036854775808,
+    highest: 9223372036854775807,
+};
+
+pub const U8: IntegerFormat = IntegerFormat {
+    bits: 8,
+    signed: false,
+    lowest: 0,
+    highest: 255,
+};
+
+const U16: IntegerFormat = IntegerFormat {
+    bits: 16,
+    signed: false,
+    lowest: 0,
+    highest: 65535,
+};
+
+const U32: IntegerFormat = IntegerFormat {
+    bits: 32,
+    signed: false,
+    lowest: 0,
+    highest: 4294967295,
+};
+
+const U64: IntegerFormat = IntegerFormat {
+    bits: 64,
+    signed: false,
+    lowest: 0,
+    highest: 18446744073709551615,
+};
+
+pub const F32: FloatFormat = FloatFormat {
+    precision: 24,
+    exponent_bits: 8,
+    lowest: 0xc7ef_ffff_e000_0000,
+    highest: 0x47ef_ffff_e000_0000,
+};
+
+pub const F64: FloatFormat = FloatFormat {
+    precision: 53,
+    exponent_bits: 11,
+    lowest: 0xffef_ffff_ffff_ffff,
+    highest: 0x7fef_ffff_ffff_ffff,
+};
+
+// The ten kinds, in the order of their codes.
 const KINDS: [KindRow; 10] = [
-    // i8
     KindRow {
         bytes: 1,
-        bits: 8,
-        float: false,
-        signed: true,
-        precision: 0,
-        spacing: 1074,
-        lowest: -128,
-        highest: 127,
-        min: 0,
-        max: 0,
+        format: Format::Integer(I8),
     },
-    // i16
     KindRow {
         bytes: 2,
-        bits: 16,
-        float: false,
-        signed: true,
-        precision: 0,
-        spacing: 1074,
-        lowest: -32768,
-        highest: 32767,
-        min: 0,
-        max: 0,
+        format: Format::Integer(I16),
     },
-    // i32
     KindRow {
         bytes: 4,
-        bits: 32,
-        float: false,
-        signed: true,
-        precision: 0,
-        spacing: 1074,
-        lowest: -2147483648,
-        highest: 2147483647,
-        min: 0,
-        max: 0,
+        format: Format::Integer(I32),
     },
-    // i64
     KindRow {
         bytes: 8,
-        bits: 64,
-        float: false,
-        signed: true,
-        precision: 0,
-        spacing: 1074,
-        lowest: -9223372036854775808,
-        highest: 9223372036854775807,
-        min: 0,
-        max: 0,
+        format: Format::Integer(I64),
     },
-    // u8
     KindRow {
         bytes: 1,
-        bits: 8,
-        float: false,
-        signed: false,
-        precision: 0,
-        spacing: 1074,
-        lowest: 0,
-        highest: 255,
-        min: 0,
-        max: 0,
+        format: Format::Integer(U8),
     },
-    // u16
     KindRow {
         bytes: 2,
-        bits: 16,
-        float: false,
-        signed: false,
-        precision: 0,
-        spacing: 1074,
-        lowest: 0,
-        highest: 65535,
-        min: 0,
-        max: 0,
+        format: Format::Integer(U16),
     },
-    // u32
     KindRow {
         bytes: 4,
-        bits: 32,
-        float: false,
-        signed: false,
-        precision: 0,
-        spacing: 1074,
-        lowest: 0,
-        highest: 4294967295,
-        min: 0,
-        max: 0,
+        format: Format::Integer(U32),
     },
-    // u64
     KindRow {
         bytes: 8,
-        bits: 64,
-        float: false,
-        signed: false,
-        precision: 0,
-        spacing: 1074,
-        lowest: 0,
-        highest: 18446744073709551615,
-        min: 0,
-        max: 0,
+        format: Format::Integer(U64),
     },
-    // f32
     KindRow {
         bytes: 4,
-        bits: 32,
-        float: true,
-        signed: true,
-        precision: 24,
-        spacing: 925,
-        lowest: 0,
-        highest: 0,
-        min: 0xc7ef_ffff_e000_0000,
-        max: 0x47ef_ffff_e000_0000,
+        format: Format::Float(F32),
     },
-    // f64
     KindRow {
         bytes: 8,
-        bits: 64,
-        float: true,
-        signed: true,
-        precision: 53,
-        spacing: 0,
-        lowest: 0,
-        highest: 0,
-        min: 0xffef_ffff_ffff_ffff,
-        max: 0x7fef_ffff_ffff_ffff,
+        format: Format::Float(F64),
     },
 ];
+
+// Whether every code of a call is listed.
+pub fn codes_listed(from: u8, to: u8, rounding: u8, range: u8) -> bool
+    ensures { λ r. ⌜ r ≡ ltb from 10 && ltb to 10 && ltb rounding 5 && ltb range 3 ⌝ }
+{
+    if LISTED_KINDS <= from {
+        return false;
+    }
+    if LISTED_KINDS <= to {
+        return false;
+    }
+    if LISTED_ROUNDINGS <= rounding {
+        return false;
+    }
+    range < LISTED_RANGES
+}
 
 // The row of a listed kind code.
 pub fn row_of(code: u8) -> KindRow
@@ -209,27 +237,6 @@ pub fn row_of(code: u8) -> KindRow
     ensures { λ r. ⌜ r ≡ rowOf (kindOf code) ⌝ }
 {
     KINDS[code as usize]
-}
-
-// The row of u8. Where the code is known, nothing of the table is left in the machine code.
-pub fn row_u8() -> KindRow
-    ensures { λ r. ⌜ r ≡ rowOf (kindOf 4) ⌝ }
-{
-    KINDS[4]
-}
-
-// The row of i32.
-pub fn row_i32() -> KindRow
-    ensures { λ r. ⌜ r ≡ rowOf (kindOf 2) ⌝ }
-{
-    KINDS[2]
-}
-
-// The row of i64.
-pub fn row_i64() -> KindRow
-    ensures { λ r. ⌜ r ≡ rowOf (kindOf 3) ⌝ }
-{
-    KINDS[3]
 }
 
 // The rounding rule of a code; the codes 0 to 4 are listed.

@@ -1,11 +1,16 @@
-// The leaves on the samples and on the ends of each kind: a line names the leaf and has what it was given and what it answered, in hexadecimal.
+// The functions below the chunk call on the samples and on the ends of each kind: a line names the function and has what it was given and what it
+// answered, in hexadecimal.
 ghost use mathlib.Core.Path.{_≡_};
 ghost use Prim.Native.Nat.{_<_, _≤_, _+_};
 ghost use lib.ListN.{length};
 ghost use Rattle.integers.specs.Magnitude.{IntegerPattern};
+ghost use Rattle.integers.specs.Precision.{Precision};
 use floats::Class;
+use floats::Float;
 use grid::RoundingMode;
+use kinds::Fit;
 use kinds::Lookup;
+use kinds::OutOfRangeMode;
 use libc::STDOUT_FILENO;
 
 fn text(s: &[u8]) {
@@ -71,46 +76,48 @@ fn parts_32(b: u32) {
     end();
 }
 
-// A finite number's significand, of so many digits, and exponent, or what else the float is.
-fn put_class(c: Class, width: usize) {
-    match c {
-        Class::Finite {
-            significand,
-            exponent,
-        } => {
-            number(significand, width);
-            number(exponent, 3);
+// The sign of a float, and a finite number's significand and exponent, or what else it is.
+fn put_float(x: Float) {
+    sign(x.negative);
+    let class = x.class;
+    match class {
+        Class::Finite(magnitude) => {
+            number(magnitude.significand, 14);
+            number(magnitude.exponent, 3);
         }
         Class::Infinite => text(b" infinite"),
-        Class::NotANumber => text(b" nan"),
+        Class::NotANumber { fraction } => {
+            text(b" nan");
+            number(fraction, 13);
+        }
     }
     end();
 }
 
-fn class_64(b: u64) {
-    text(b"classify_f64");
+fn read_64(b: u64) {
+    text(b"read_f64");
     number(b, 16);
-    put_class(floats::classify_f64(b), 14);
+    put_float(floats::read_f64(b));
 }
 
-fn class_32(b: u32) {
-    text(b"classify_f32");
+fn read_32(b: u32) {
+    text(b"read_f32");
     number(wide(b), 8);
-    put_class(floats::classify_f32(b), 6);
+    put_float(floats::read_f32(b));
 }
 
 // The ends of the three ranges of an exponent field.
-fn float_classes() {
-    class_64(0x000fffffffffffff);
-    class_64(0x8010000000000000);
-    class_64(0x7fefffffffffffff);
-    class_64(0xfff0000000000000);
-    class_64(0x7ff0000000000001);
-    class_32(0x007fffff);
-    class_32(0x80800000);
-    class_32(0x7f7fffff);
-    class_32(0xff800000);
-    class_32(0x7f800001);
+fn float_readers() {
+    read_64(0x000fffffffffffff);
+    read_64(0x8010000000000000);
+    read_64(0x7fefffffffffffff);
+    read_64(0xfff0000000000000);
+    read_64(0x7ff0000000000001);
+    read_32(0x007fffff);
+    read_32(0x80800000);
+    read_32(0x7f7fffff);
+    read_32(0xff800000);
+    read_32(0x7f800001);
 }
 
 fn neighbours_64(b: u64) {
@@ -130,16 +137,9 @@ fn neighbours_32(b: u32) {
 }
 
 fn widened(b: u32) {
-    text(b"widen");
+    text(b"read_f32, write_f64");
     number(wide(b), 8);
-    number(widening::widen(b), 16);
-    end();
-}
-
-fn narrowed_nan(b: u64) {
-    text(b"narrow_nan");
-    number(b, 16);
-    number(wide(widening::narrow_nan(b)), 8);
+    number(floats::write_f64(floats::read_f32(b)), 16);
     end();
 }
 
@@ -183,8 +183,6 @@ fn float_widths() {
     widened(0x7f7fffff);
     widened(0xff800000);
     widened(0x7f800001);
-    narrowed_nan(0x7ff0000000000001);
-    narrowed_nan(0xfff8000020000000);
 }
 
 // ---- rounding to a whole number
@@ -193,23 +191,23 @@ fn rounded_64(b: u64) {
     text(b"round_with_mode_f64");
     number(b, 16);
     number(
-        rounding::round_with_mode_f64(b, RoundingMode::NearestEven),
+        integral::round_with_mode_f64(b, RoundingMode::NearestEven),
         16,
     );
     number(
-        rounding::round_with_mode_f64(b, RoundingMode::TowardsZero),
+        integral::round_with_mode_f64(b, RoundingMode::TowardsZero),
         16,
     );
     number(
-        rounding::round_with_mode_f64(b, RoundingMode::TowardsPositive),
+        integral::round_with_mode_f64(b, RoundingMode::TowardsPositive),
         16,
     );
     number(
-        rounding::round_with_mode_f64(b, RoundingMode::TowardsNegative),
+        integral::round_with_mode_f64(b, RoundingMode::TowardsNegative),
         16,
     );
     number(
-        rounding::round_with_mode_f64(b, RoundingMode::NearestAway),
+        integral::round_with_mode_f64(b, RoundingMode::NearestAway),
         16,
     );
     end();
@@ -219,23 +217,23 @@ fn rounded_32(b: u32) {
     text(b"round_with_mode_f32");
     number(wide(b), 8);
     number(
-        wide(rounding::round_with_mode_f32(b, RoundingMode::NearestEven)),
+        wide(integral::round_with_mode_f32(b, RoundingMode::NearestEven)),
         8,
     );
     number(
-        wide(rounding::round_with_mode_f32(b, RoundingMode::TowardsZero)),
+        wide(integral::round_with_mode_f32(b, RoundingMode::TowardsZero)),
         8,
     );
     number(
-        wide(rounding::round_with_mode_f32(b, RoundingMode::TowardsPositive)),
+        wide(integral::round_with_mode_f32(b, RoundingMode::TowardsPositive)),
         8,
     );
     number(
-        wide(rounding::round_with_mode_f32(b, RoundingMode::TowardsNegative)),
+        wide(integral::round_with_mode_f32(b, RoundingMode::TowardsNegative)),
         8,
     );
     number(
-        wide(rounding::round_with_mode_f32(b, RoundingMode::NearestAway)),
+        wide(integral::round_with_mode_f32(b, RoundingMode::NearestAway)),
         8,
     );
     end();
@@ -257,69 +255,80 @@ fn whole_numbers() {
     rounded_32(0x4b000001);
 }
 
-// ---- one rounding to 24 digits
+// ---- one rounding to f32
 
-fn narrowed(x: u64)
-    requires { ⌜ x < 9223372036854775808 ⌝ }
-{
-    text(b"narrow_f32");
-    number(x, 16);
-    number(rounding::narrow_f32(x, RoundingMode::NearestEven, false), 8);
-    number(rounding::narrow_f32(x, RoundingMode::TowardsZero, false), 8);
-    number(
-        rounding::narrow_f32(x, RoundingMode::TowardsPositive, true),
-        8,
-    );
-    number(
-        rounding::narrow_f32(x, RoundingMode::TowardsNegative, true),
-        8,
-    );
-    number(rounding::narrow_f32(x, RoundingMode::NearestAway, false), 8);
+fn put_fit(f: Fit) {
+    match f {
+        Fit::Pattern(pattern) => number(pattern, 8),
+        Fit::NotFinite => text(b" not-finite"),
+        Fit::OutOfRange => text(b" out-of-range"),
+    }
+}
+
+fn narrow(b: u64, mode: RoundingMode) {
+    let x = floats::read_f64(b);
+    put_fit(narrowing::narrow_f32(x, mode, OutOfRangeMode::None));
+}
+
+fn narrowed(b: u64) {
+    text(b"read_f64, narrow_f32");
+    number(b, 16);
+    narrow(b, RoundingMode::NearestEven);
+    narrow(b, RoundingMode::TowardsZero);
+    narrow(b, RoundingMode::TowardsPositive);
+    narrow(b, RoundingMode::TowardsNegative);
+    narrow(b, RoundingMode::NearestAway);
     end();
 }
 
-fn digits(magnitude: u64, negative: bool, count: u32)
-    requires { ⌜ (2 ≤ count) × (count ≤ 53) ⌝ }
+fn integer(magnitude: u64, negative: bool, precision: u32, mode: RoundingMode)
+    requires { ⌜ Precision precision ⌝ }
 {
-    text(b"int_to_f64_bits");
+    number(
+        integers::int_to_f64_magnitude(magnitude, negative, precision, mode),
+        16,
+    );
+}
+
+fn rounded_integer(magnitude: u64, negative: bool, precision: u32)
+    requires { ⌜ Precision precision ⌝ }
+{
+    text(b"int_to_f64_magnitude");
     sign(negative);
     number(magnitude, 16);
-    number(
-        integers::int_to_f64_bits(magnitude, negative, count, RoundingMode::NearestEven),
-        16,
+    integer(magnitude, negative, precision, RoundingMode::NearestEven);
+    integer(magnitude, negative, precision, RoundingMode::TowardsZero);
+    integer(
+        magnitude,
+        negative,
+        precision,
+        RoundingMode::TowardsPositive,
     );
-    number(
-        integers::int_to_f64_bits(magnitude, negative, count, RoundingMode::TowardsZero),
-        16,
+    integer(
+        magnitude,
+        negative,
+        precision,
+        RoundingMode::TowardsNegative,
     );
-    number(
-        integers::int_to_f64_bits(magnitude, negative, count, RoundingMode::TowardsPositive),
-        16,
-    );
-    number(
-        integers::int_to_f64_bits(magnitude, negative, count, RoundingMode::TowardsNegative),
-        16,
-    );
-    number(
-        integers::int_to_f64_bits(magnitude, negative, count, RoundingMode::NearestAway),
-        16,
-    );
+    integer(magnitude, negative, precision, RoundingMode::NearestAway);
     end();
 }
 
-fn digits_kept() {
-    // 2^128 - 2^103, 2^128, 2^-150, 2^-200
+fn rounded_once() {
+    // 2^128 - 2^103, -2^128, 2^-150, -2^-200, two NaNs
     narrowed(0x47effffff0000000);
-    narrowed(0x47f0000000000000);
+    narrowed(0xc7f0000000000000);
     narrowed(0x3690000000000000);
-    narrowed(0x3370000000000000);
-    // 0, 16777217, its negative and 2^64 - 1 to 24 digits; 2^64 - 1 and -2^63 to 53
-    digits(0x0000000000000000, false, 24);
-    digits(0x0000000001000001, false, 24);
-    digits(0x0000000001000001, true, 24);
-    digits(0xffffffffffffffff, false, 24);
-    digits(0xffffffffffffffff, false, 53);
-    digits(0x8000000000000000, true, 53);
+    narrowed(0xb370000000000000);
+    narrowed(0x7ff0000000000001);
+    narrowed(0xfff8000020000000);
+    // 0, 16777217, its negative and 2^64 - 1 to 24 bits; 2^64 - 1 and -2^63 to 53
+    rounded_integer(0x0000000000000000, false, 24);
+    rounded_integer(0x0000000001000001, false, 24);
+    rounded_integer(0x0000000001000001, true, 24);
+    rounded_integer(0xffffffffffffffff, false, 24);
+    rounded_integer(0xffffffffffffffff, false, 53);
+    rounded_integer(0x8000000000000000, true, 53);
 }
 
 // ---- integers by sign and magnitude
@@ -361,10 +370,10 @@ fn integer_ends() {
 fn wrapped(b: u64) {
     text(b"wrap_integral_f64");
     number(b, 16);
-    number(wrapping::wrap_integral_f64(b, 8), 2);
-    number(wrapping::wrap_integral_f64(b, 16), 4);
-    number(wrapping::wrap_integral_f64(b, 32), 8);
-    number(wrapping::wrap_integral_f64(b, 64), 16);
+    number(integral::wrap_integral_f64(b, 8), 2);
+    number(integral::wrap_integral_f64(b, 16), 4);
+    number(integral::wrap_integral_f64(b, 32), 8);
+    number(integral::wrap_integral_f64(b, 64), 16);
     end();
 }
 
@@ -398,7 +407,7 @@ fn float_map(b: u64) {
     let targets = [9, 7, 8];
     text(b"apply_scalar_map_float");
     number(b, 16);
-    looked_up(mapping::apply_scalar_map_float(b, &keys, &targets, 3, 9, 8, 1));
+    looked_up(mapping::apply_scalar_map_float(b, &keys, &targets, 3, kinds::F64, 8, 1));
 }
 
 // The eight bytes of x, at a place of d.
@@ -418,7 +427,7 @@ fn integer_map(b: u64)
     let targets = [1, 2, 3];
     text(b"apply_scalar_map_int");
     number(b, 2);
-    looked_up(mapping::apply_scalar_map_int(b, &keys, &targets, 3, 4, 1, 1));
+    looked_up(mapping::apply_scalar_map_int(b, &keys, &targets, 3, 1, 1));
 }
 
 fn maps() {
@@ -437,11 +446,11 @@ fn main() {
     bytes(&mut s, 0x0123456789abcdef);
     bytes(&mut s, 0xffffffffffffff80);
     float_parts();
-    float_classes();
+    float_readers();
     float_neighbours();
     float_widths();
     whole_numbers();
-    digits_kept();
+    rounded_once();
     integer_ends();
     residues();
     maps();

@@ -1,5 +1,4 @@
 -- The chunk call into a lent buffer, and its report.
--- Assumes nothing.
 use mathlib.Core.Path.{_≡_, sym, ap, ap₂, subst, _∙_}
 use mathlib.Core.Logic.{⊎-elim}
 use mathlib.Core.List.{List, _++_}
@@ -8,22 +7,22 @@ use native.Mathlib.Nat.{le-of-eq, le-trans, mul-le-mul, div-le-self}
 use native.Mathlib.Omega.{arith}
 use lib.ListN.{length, take, drop, replicate, length-append, length-replicate}
 use lib.Seq.{take-at, length-take-le}
+use Rattle.patterns.specs.Kind.{width}
 use Rattle.kinds.specs.Answer.{positionOf}
 use Rattle.kinds.specs.Codes.{kindOf}
 use Rattle.kinds.specs.Row.{rowOf}
 use Rattle.kinds.specs.declared.Answer.{Answer}
 use Rattle.kinds.specs.declared.KindRow.{KindRow}
-use Rattle.mapping.proofs.Codes.{row-width}
-use Rattle.cast_spec.specs.Chunk.{Inputs, inputs, width, answerOf, destinationOf}
+use Rattle.kinds.proofs.Listed.{row-width}
+use Rattle.cast_spec.specs.Chunk.{Inputs, inputs, answerOf, destinationOf}
 use Rattle.cast_spec.specs.Demand3.{Contract}
-use Rattle.chunk.proofs.Elements.{listed-width}
-use Rattle.chunk.proofs.Exits.{width-pos}
+use Rattle.cast_spec.proofs.Widths.{listed-width, width-pos}
 use Rattle.text.specs.Wrote.{Wrote}
 use Rattle.report.specs.Report.{report}
-use Rattle.report.specs.Room.{ReportIn}
+use Rattle.report.specs.Room.{ReportFits}
 use Rattle.listing.specs.Listing.{reportOf, chunkOf}
 use Rattle.bytes_le.specs.Bytes.{Width}
-use Rattle.listing.specs.Parts.{CallIn}
+use Rattle.listing.specs.Parts.{CallFits}
 use Rattle.listing.proofs.Unchanged.{position-counted, same-report}
 
 -- ---- the widths of listed kinds
@@ -50,7 +49,7 @@ lines-most n w h l =
     let k : n * (2 * w + 1) ≤ 8186 * 17 = mul-le-mul h m in
     omega arith
 
-module _ (src keys targets : List ℕ) (from to rounding range : ℕ) (work d : List ℕ) (ask : CallIn src from to work d) (x y : KindRow) (ex : x ≡ rowOf (kindOf from)) (ey : y ≡ rowOf (kindOf to)) where
+module _ (src keys targets : List ℕ) (from to rounding range : ℕ) (work d : List ℕ) (ask : CallFits src from to work d) (x y : KindRow) (ex : x ≡ rowOf (kindOf from)) (ey : y ≡ rowOf (kindOf to)) where
   -- the elements and the destination's bytes, as the program has them
   abbrev n : ℕ
   n = length src / x .bytes
@@ -59,13 +58,13 @@ module _ (src keys targets : List ℕ) (from to rounding range : ℕ) (work d : 
   size = n * y .bytes
 
   n-most : n ≤ 8186
-  n-most = le-trans (div-le-self (length src) (x .bytes)) (ask .most)
+  n-most = le-trans (div-le-self (length src) (x .bytes)) (ask .source-fits)
 
   pub size-most : size ≤ 65488
   size-most = destination-most n (y .bytes) n-most (row-most to (ask .to-listed) y ey)
 
   pub size-within : size ≤ length work
-  size-within = le-trans size-most (ask .work-room)
+  size-within = le-trans size-most (ask .work-fits)
 
   pub size-lent : size ≡ length (take size work)
   size-lent = sym (length-take-le size work size-within)
@@ -86,13 +85,13 @@ module _ (src keys targets : List ℕ) (from to rounding range : ℕ) (work d : 
     pub size-relent : size ≡ length lent
     size-relent = size-lent ∙ sym kept ∙ sym (ap length back)
 
-    pub report-asks : ReportIn d lent r n (y .bytes)
+    pub report-asks : ReportFits d lent r n (y .bytes)
     report-asks = record {
       width = row-listed to (ask .to-listed) y ey;
-      few = omega (arith, n-most);
+      below-10000 = omega (arith, n-most);
       position = subst (λ (a : Answer). positionOf a ≤ n) (sym (done .answer)) (subst (λ (z : ℕ). positionOf (answerOf I) ≤ length src / z) (sym (row-width (kindOf from) x ex)) (position-counted I));
       whole = le-of-eq size-relent;
-      room = le-trans (lines-most n (y .bytes) n-most (row-most to (ask .to-listed) y ey)) (ask .room);
+      fits = le-trans (lines-most n (y .bytes) n-most (row-most to (ask .to-listed) y ey)) (ask .report-fits);
     }
 
     same-size : size ≡ length src / width (kindOf from) * width (kindOf to)

@@ -1,5 +1,4 @@
 -- The number of a refusal by the checks that led there, what none tells, and where the parts of an input start.
--- Assumes nothing.
 use mathlib.Core.Path.{_≡_, refl, sym, ap, ap₂, subst, _∙_}
 use mathlib.Core.Logic.{inl, inr}
 use mathlib.Core.Bool.{Bool, true, false, _&&_, cond}
@@ -12,16 +11,17 @@ use lib.ListN.{length, getD, take, drop, length-drop}
 use borrow.Author.Tests.{lt-ltb, le-ltb, le-leb, lt-leb, eq-eqb, ne-eqb, ltb-false, leb-true}
 use borrow.Rule.Slice.PartAt.{part-to-end}
 use Rattle.bytes_le.specs.Bytes.{Place}
+use Rattle.patterns.specs.Kind.{width}
 use Rattle.kinds.specs.Codes.{kindOf}
 use Rattle.kinds.specs.Row.{rowOf}
 use Rattle.kinds.specs.declared.KindRow.{KindRow}
-use Rattle.mapping.proofs.Codes.{row-width}
-use Rattle.cast_spec.specs.Chunk.{codesListed, width}
+use Rattle.kinds.proofs.Listed.{row-width}
+use Rattle.cast_spec.specs.Chunk.{codesListed}
 use Rattle.chunk.proofs.Exits.{listed-codes}
 use Rattle.listing.specs.declared.Layout.{Layout}
 use Rattle.report.specs.Report.{refusedLine}
 use Rattle.listing.specs.Listing.{entries, keysEnd, mapEnd, targets, elements, call, chunkOf, reportOf, refusalOf, listingOf}
-use Rattle.listing.specs.Parts.{HeadIn, CallIn, layoutOf}
+use Rattle.listing.specs.Parts.{HeadIn, CallFits, layoutOf}
 use Rattle.listing.proofs.Calls.{row-most}
 
 -- ---- where the parts start
@@ -133,13 +133,13 @@ module _ (s : List ℕ) (z : refusalOf s ≡ 0) where
     pub targets-first : l .targets ≤ l .elements
     targets-first = omega (arith, starts, ends)
 
-    pub call-asks : (work out : List ℕ) → 65488 ≤ length work → 139180 ≤ length out → CallIn (take (length s - l .elements) (drop (l .elements) s)) (getD s 0 0) (getD s 1 0) work out
+    pub call-asks : (work out : List ℕ) → 65488 ≤ length work → 139180 ≤ length out → CallFits (take (length s - l .elements) (drop (l .elements) s)) (getD s 0 0) (getD s 1 0) work out
     call-asks work out h k = record {
       from-listed = taken-head .from;
       to-listed = taken-head .to;
-      most = rw (part-to-end s (l .elements), length-drop) (omega (arith, six-first, targets-first, most));
-      work-room = h;
-      room = k;
+      source-fits = rw (part-to-end s (l .elements), length-drop) (omega (arith, six-first, targets-first, most));
+      work-fits = h;
+      report-fits = k;
     }
 
     -- the parts of the input, as the program cuts them

@@ -1,5 +1,4 @@
 -- Whole listings: a table, proved by one theorem. The first is document 01's example.
--- Assumes nothing.
 use mathlib.Core.Path.{_≡_, refl}
 use mathlib.Core.List.{List, [], _∷_, _++_, map}
 use Prim.Native.Nat.{ℕ}

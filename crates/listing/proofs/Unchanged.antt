@@ -1,5 +1,4 @@
 -- What stands in the destination before a call shows in no line of the report, and a position lies before the count.
--- Assumes nothing.
 use mathlib.Core.Path.{_≡_, refl, sym, ap, subst, _∙_}
 use mathlib.Core.Bool.{Bool, true, false, _&&_, cond}
 use mathlib.Core.List.{List, [], _++_}

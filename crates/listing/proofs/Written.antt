@@ -1,5 +1,4 @@
 -- A listing that was written lies within the buffer: what a caller asks that hands it on.
--- Assumes nothing.
 use mathlib.Core.Path.{_≡_, sym, ap, _∙_}
 use mathlib.Core.List.{List}
 use Prim.Native.Nat.{ℕ, _≤_}

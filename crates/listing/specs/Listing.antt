@@ -1,5 +1,4 @@
--- What `castlist` prints, over the bytes s that it reads alone. They are at most 8,193: the last of those tells that there is more.
--- Assumes nothing.
+-- To be believed: what `castlist` prints, over the bytes s that it reads alone. They are at most 8,193: the last of those tells that there is more.
 use mathlib.Core.Path.{_≡_}
 use mathlib.Core.Bool.{_&&_, cond}
 use mathlib.Core.List.{List, _++_}
@@ -7,8 +6,9 @@ use Prim.Native.Nat.{ℕ, _+_, _*_, _/_, _≤_}
 use lib.Dec.{eqb, ltb, leb}
 use lib.ListN.{length, getD, take, drop, replicate}
 use Rattle.bytes_le.specs.Bytes.{fromLe}
+use Rattle.patterns.specs.Kind.{width}
 use Rattle.kinds.specs.Codes.{kindOf}
-use Rattle.cast_spec.specs.Chunk.{Inputs, inputs, width, sw, dw, codesListed, answerOf, destinationOf}
+use Rattle.cast_spec.specs.Chunk.{Inputs, inputs, sw, dw, codesListed, answerOf, destinationOf}
 use Rattle.report.specs.Report.{refusedLine, report}
 
 -- the chunk call into zeros, as many elements as the source; what stands there before the call shows in no line

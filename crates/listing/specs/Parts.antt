@@ -1,5 +1,4 @@
--- What the parts of the listing ask, and where those of an input start.
--- Assumes nothing.
+-- Internal: what the parts of the listing ask, and where those of an input start.
 use mathlib.Core.List.{List}
 use Prim.Native.Nat.{ℕ, _≤_, _<_}
 use lib.ListN.{length, getD}
@@ -17,9 +16,9 @@ abbrev pub layoutOf : List ℕ → Layout
 layoutOf s = record { targets = keysEnd s; elements = mapEnd s }
 
 -- the kinds are listed, and the destination and the report of so many bytes of elements fit
-pub record CallIn (source : List ℕ) (from to : ℕ) (work d : List ℕ) : Type 0 where
+pub record CallFits (source : List ℕ) (from to : ℕ) (work d : List ℕ) : Type 0 where
   pub from-listed : from < 10
   pub to-listed : to < 10
-  pub most : length source ≤ 8186
-  pub work-room : 65488 ≤ length work
-  pub room : 139180 ≤ length d
+  pub source-fits : length source ≤ 8186
+  pub work-fits : 65488 ≤ length work
+  pub report-fits : 139180 ≤ length d

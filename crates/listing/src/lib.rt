@@ -4,7 +4,7 @@ ghost use Prim.Native.Nat.{_≤_};
 ghost use lib.ListN.{length};
 ghost use Rattle.text.specs.Wrote.{Wrote};
 ghost use Rattle.listing.specs.Listing.{chunkOf, reportOf, refusalOf, listingOf, Listed};
-ghost use Rattle.listing.specs.Parts.{HeadIn, CallIn, layoutOf};
+ghost use Rattle.listing.specs.Parts.{HeadIn, CallFits, layoutOf};
 
 // The places of an input where the targets and the elements start.
 struct Layout {
@@ -24,7 +24,7 @@ fn put_call(
     work: &mut [u8],
     out: &mut [u8],
 ) -> usize
-    requires { ⌜ CallIn (now src) from to (now work) (now out) ⌝ }
+    requires { ⌜ CallFits (now src) from to (now work) (now out) ⌝ }
     ensures { λ r. ⌜ Wrote (now (out .entry)) 0 (reportOf (chunkOf (now (src .entry)) (now (keys .entry)) (now (targets .entry)) from to rounding range)) r (now (out .exit)) ⌝ }
 {
     let n = src.len() / kinds::row_of(from).bytes;
@@ -65,7 +65,7 @@ fn refusal(input: &[u8]) -> usize
     if input.len() < 6 {
         return 1;
     }
-    if !chunk::codes_listed(input[0], input[1], input[2], input[3]) {
+    if !kinds::codes_listed(input[0], input[1], input[2], input[3]) {
         return 1;
     }
     let map_end = layout_of(input).elements;

@@ -1,80 +1,70 @@
 -- The lookup over the entries' bytes, one entry at a time.
--- Assumes nothing.
 use mathlib.Core.Path.{_≡_, sym, ap, ap₂, subst, _∙_}
 use mathlib.Core.Bool.{Bool, true, false, cond}
 use mathlib.Core.List.{List}
 use Prim.Native.Nat.{ℕ, suc, _+_, _-_, _*_, _^_, _≤_, _<_}
-use native.Mathlib.Nat.{mul-le-mul-right, sub-eq-zero-of-le}
+use native.Mathlib.Nat.{mul-le-mul-right, sub-eq-zero-of-le, sub-zero}
 use native.Mathlib.Numerals.{add-one}
 use native.Mathlib.Omega.{arith}
 use lib.ListN.{length}
-use Rattle.bytes_le.specs.Bytes.{patternAt, Place}
-use Rattle.patterns.specs.Kind.{bits}
+use Rattle.bytes_le.specs.Bytes.{patternAt, Width, Place}
+use Rattle.patterns.specs.Kind.{Kind}
 use Rattle.patterns.specs.Value.{valueOf}
 use Rattle.kinds.specs.declared.Lookup.{Lookup}
 use Rattle.kinds.specs.declared.Lookup.the-variants.{Found, Missing}
-use Rattle.kinds.specs.Codes.{kindOf}
 use Rattle.cast_spec.specs.Element.{matches, lookupOf}
-use Rattle.cast_spec.specs.Chunk.{width, entriesFrom}
-use Rattle.cast_spec.proofs.Demand3.{kind-fits}
+use Rattle.cast_spec.specs.Chunk.{entriesFrom}
+use Rattle.cast_spec.proofs.Widths.{byte-patterns}
 use Rattle.mapping.specs.Map.{MapBytes}
-use Rattle.mapping.proofs.Codes.{Width, Matched}
 
+-- ---- the entry at j lies within the bytes of n entries
 place : (s : List ℕ) (w n j : ℕ) → Width w → length s ≡ n * w → j < n → Place s (j * w) w
 place s w n j width e h = record { width = width; within = omega (arith, mul-le-mul-right w h) }
 
+module _ {bits b : ℕ} {keys targets : List ℕ} {n sw dw : ℕ} (M : MapBytes bits b keys targets n sw dw) where
+  pub key-place : {j : ℕ} → j < n → Place keys (j * sw) sw
+  key-place {j} h = place keys sw n j (M .key-width) (M .whole-keys) h
+
+  pub target-place : {j : ℕ} → j < n → Place targets (j * dw) dw
+  target-place {j} h = place targets dw n j (M .target-width) (M .whole-targets) h
+
+  pub key-fits : {key : ℕ} → key < 256 ^ sw → key < 2 ^ bits
+  key-fits {key} h = subst (λ (z : ℕ). key < z) (byte-patterns sw ∙ ap (λ (z : ℕ). 2 ^ z) (M .key-bits)) h
+
 -- ---- the lookup over m entries from the position j on
-abbrev pub lookupFrom : ℕ → List ℕ → List ℕ → ℕ → ℕ → ℕ → ℕ → ℕ → Lookup
-lookupFrom b keys targets from sw dw j m = lookupOf (kindOf from) (valueOf (kindOf from) b) (entriesFrom sw dw keys targets j m)
+abbrev pub lookupFrom : Kind → ℕ → List ℕ → List ℕ → ℕ → ℕ → ℕ → ℕ → Lookup
+lookupFrom k b keys targets sw dw j m = lookupOf k (valueOf k b) (entriesFrom sw dw keys targets j m)
 
 -- no entry before j of n matches
-pub record Passed (b : ℕ) (keys targets : List ℕ) (n from sw dw j : ℕ) : Type 0 where
-  pub within : j ≤ n
-  pub same : lookupFrom b keys targets from sw dw 0 n ≡ lookupFrom b keys targets from sw dw j (n - j)
+pub record Passed (k : Kind) (b : ℕ) (keys targets : List ℕ) (n sw dw j : ℕ) : Type 0 where
+  pub same : lookupFrom k b keys targets sw dw 0 n ≡ lookupFrom k b keys targets sw dw j (n - j)
 
-module _ {b : ℕ} {keys targets : List ℕ} {n from sw dw : ℕ} where
-  pub none-passed : Passed b keys targets n from sw dw 0
-  none-passed = record {
-    within = omega arith;
-    same = ap (lookupFrom b keys targets from sw dw 0) (whole n);
-  }
-    where
-      whole : (n : ℕ) → n ≡ n - 0
-      whole n = omega arith
+-- t says whether b matches a key
+abbrev pub Matched : Kind → ℕ → ℕ → Bool → Type 0
+Matched k b key t = t ≡ matches (valueOf k b) (valueOf k key)
 
-  pub all-passed : {j : ℕ} → Passed b keys targets n from sw dw j → n ≤ j → Missing ≡ lookupFrom b keys targets from sw dw 0 n
-  all-passed {j = j} P h = sym (P .same ∙ ap (lookupFrom b keys targets from sw dw j) (sub-eq-zero-of-le h))
+module _ {k : Kind} {b : ℕ} {keys targets : List ℕ} {n sw dw : ℕ} where
+  pub none-passed : Passed k b keys targets n sw dw 0
+  none-passed = record { same = ap (lookupFrom k b keys targets sw dw 0) (sym (sub-zero n)) }
 
-  module _ (M : MapBytes b keys targets n from sw dw) {j : ℕ} (P : Passed b keys targets n from sw dw j) (h : j < n) where
-    -- the entry at j lies within the bytes of n entries
-    pub key-place : Width (width (kindOf from)) → Place keys (j * sw) sw
-    key-place w = place keys sw n j (subst Width (sym (M .key-width)) w) (M .whole-keys) h
+  module _ {j : ℕ} (P : Passed k b keys targets n sw dw j) where
+    pub all-passed : n ≤ j → Missing ≡ lookupFrom k b keys targets sw dw 0 n
+    all-passed h = sym (P .same ∙ ap (lookupFrom k b keys targets sw dw j) (sub-eq-zero-of-le h))
 
-    pub target-place : Place targets (j * dw) dw
-    target-place = place targets dw n j (M .target-width) (M .whole-targets) h
+    module _ (h : j < n) {key : ℕ} (read : key ≡ patternAt sw keys j) {t : Bool} (test : Matched k b key t) where
+      turn : lookupFrom k b keys targets sw dw 0 n ≡ cond t (Found (patternAt dw targets j)) (lookupFrom k b keys targets sw dw (j + 1) (n - (j + 1)))
+      turn =
+          P .same
+          ∙ ap (lookupFrom k b keys targets sw dw j) (left n j h)
+          ∙ ap₂ (λ (t : Bool) (i : ℕ). cond t (Found (patternAt dw targets j)) (lookupFrom k b keys targets sw dw i (n - (j + 1))))
+          (sym (test ∙ ap (λ (z : ℕ). matches (valueOf k b) (valueOf k z)) read))
+          (sym (add-one j))
+        where
+          left : (n j : ℕ) → j < n → n - j ≡ suc (n - (j + 1))
+          left n j h = omega arith
 
-    module _ {key : ℕ} (is : (key ≡ patternAt sw keys j) × (key < 256 ^ sw)) where
-      pub key-fits : key < 2 ^ bits (kindOf from)
-      key-fits = subst (λ (z : ℕ). key < z) (ap (λ (z : ℕ). 256 ^ z) (M .key-width) ∙ kind-fits from) (is .1)
+      pub found : {target : ℕ} → t ≡ true → target ≡ patternAt dw targets j → Found target ≡ lookupFrom k b keys targets sw dw 0 n
+      found e f = sym (turn ∙ ap₂ (λ (t : Bool) (z : ℕ). cond t (Found z) (lookupFrom k b keys targets sw dw (j + 1) (n - (j + 1)))) e (sym f))
 
-      -- t says whether the key matches
-      module _ {t : Bool} (test : Matched b key t (kindOf from)) where
-        turn : lookupFrom b keys targets from sw dw 0 n ≡ cond t (Found (patternAt dw targets j)) (lookupFrom b keys targets from sw dw (j + 1) (n - (j + 1)))
-        turn =
-            P .same
-            ∙ ap (lookupFrom b keys targets from sw dw j) (left n j h)
-            ∙ ap₂ (λ (t : Bool) (i : ℕ). cond t (Found (patternAt dw targets j)) (lookupFrom b keys targets from sw dw i (n - (j + 1))))
-            (sym (test ∙ ap (λ (z : ℕ). matches (valueOf (kindOf from) b) (valueOf (kindOf from) z)) (is .0)))
-            (sym (add-one j))
-          where
-            left : (n j : ℕ) → j < n → n - j ≡ suc (n - (j + 1))
-            left n j h = omega arith
-
-        pub found : {target : ℕ} → t ≡ true → target ≡ patternAt dw targets j → Found target ≡ lookupFrom b keys targets from sw dw 0 n
-        found e f = sym (turn ∙ ap₂ (λ (t : Bool) (z : ℕ). cond t (Found z) (lookupFrom b keys targets from sw dw (j + 1) (n - (j + 1)))) e (sym f))
-
-        pub passed : t ≡ false → Passed b keys targets n from sw dw (j + 1)
-        passed e = record {
-          within = omega arith;
-          same = turn ∙ ap (λ (t : Bool). cond t (Found (patternAt dw targets j)) (lookupFrom b keys targets from sw dw (j + 1) (n - (j + 1)))) e;
-        }
+      pub passed : t ≡ false → Passed k b keys targets n sw dw (j + 1)
+      passed e = record { same = turn ∙ ap (λ (t : Bool). cond t (Found (patternAt dw targets j)) (lookupFrom k b keys targets sw dw (j + 1) (n - (j + 1)))) e }

@@ -1,23 +1,26 @@
 -- A float matches a key exactly where the patterns are equal, both are NaNs, or both are zeros: for any format.
--- Assumes nothing.
-use mathlib.Core.Path.{_≡_, refl, sym, ap, ap₂, _∙_}
+use mathlib.Core.Path.{_≡_, refl, sym, ap, ap₂, subst, _∙_}
 use mathlib.Core.Bool.{Bool, true, false, Bool·beq}
+use mathlib.Core.Logic.{inl, inr}
 use Prim.Native.Nat.{ℕ, zero, suc, _+_, _-_, _*_, _%_, _^_, _≤_, _<_}
 use native.Mathlib.Nat.{mul-pos, mod-eq-of-lt, mod-eq-sub-mod}
 use native.Mathlib.Omega.{arith}
 use lib.Bits.{bitAnd, bitOr, and-mask, or-zero-l, or-add-and, and-le-l, and-le-r}
-use lib.Dec.{eqb, ltb, leb}
+use lib.Dec.{eqb, ltb, leb, lit<, lit≤}
 use lib.IntN.{ℤ, pos, natAbs}
 use lib.Pow.{pow-pos, pow-mono}
 use borrow.Author.Tests.{lt-ltb, le-ltb, eq-eqb, ne-eqb, leb-true, leb-false, eqb-true, eqb-false}
 use Rattle.grid.specs.Round.{signed}
 use Rattle.grid.proofs.Neighbours.{cut, pow-twice-pred}
 use Rattle.patterns.specs.Float.{bitsMag, infBits}
-use Rattle.patterns.specs.Kind.{binary}
+use Rattle.patterns.specs.Kind.{binary, bits}
 use Rattle.patterns.specs.Value.{nan, inf, num, floatValue, valueOf}
 use Rattle.patterns.proofs.Encode.{zero-bits, bits-mono}
 use Rattle.patterns.proofs.Floats.{abs-signed, same-bits}
+use Rattle.kinds.specs.Row.{floatOf, FloatRow}
+use Rattle.kinds.specs.declared.FloatFormat.{FloatFormat}
 use Rattle.cast_spec.specs.Element.{matches}
+use Rattle.mapping.specs.Map.{FloatPatterns}
 use Rattle.mapping.proofs.Equal.{equal-numbers, false-if-absurd}
 
 -- ---- signs
@@ -61,12 +64,12 @@ either-zero : (x k : ℕ) → bitOr x k ≡ 0 → (x ≡ 0) × (k ≡ 0)
 either-zero x k e = (omega (arith, or-add-and x k, and-le-r x k), omega (arith, or-add-and x k, and-le-l x k))
 
 -- ---- a float format of p significant bits, w bits of exponent field and smallest spacing 2^s
-module _ (p w s : ℕ) (two : 2 ≤ p) (some : 0 < w) where
+module _ (p w s : ℕ) (two : 2 ≤ p) (positive : 0 < w) where
   abbrev top : ℕ
   top = 2 ^ (w + p - 1)
 
   inf-pos : 0 < infBits p w
-  inf-pos = mul-pos (omega (arith, pow-mono {i = 1} {j = w} some)) (pow-pos (p - 1))
+  inf-pos = mul-pos (omega (arith, pow-mono {i = 1} {j = w} positive)) (pow-pos (p - 1))
 
   -- "Those of a finite number are less, those of a NaN more"
   finite : (neg : Bool) (x : ℕ) → x < infBits p w → floatValue p w s neg x ≡ num (signed neg (bitsMag p s x))
@@ -84,7 +87,7 @@ module _ (p w s : ℕ) (two : 2 ≤ p) (some : 0 < w) where
 
   -- equal numbers have equal bits below the sign, and equal signs where those are not 0
   equal-floats : (a b : Bool) (x k : ℕ) → signed a (bitsMag p s x) ≡ signed b (bitsMag p s k) → x ≡ k
-  equal-floats a b x k e = same-bits p w s two some x k (sym (abs-signed a (bitsMag p s x)) ∙ ap natAbs e ∙ abs-signed b (bitsMag p s k))
+  equal-floats a b x k e = same-bits p w s two positive x k (sym (abs-signed a (bitsMag p s x)) ∙ ap natAbs e ∙ abs-signed b (bitsMag p s k))
 
   equal-signs : (a b : Bool) (x k : ℕ) → 0 < x → signed a (bitsMag p s x) ≡ signed b (bitsMag p s k) → a ≡ b
   equal-signs a b x k h e = sign-only a b (bitsMag p s x) (bitsMag p s k) (omega (arith, zero-bits p s two, bits-mono p s 0 x h)) e
@@ -135,15 +138,29 @@ module _ (p w s : ℕ) (two : 2 ≤ p) (some : 0 < w) where
         (λ m. ap₂ matches (infinite a x m) (infinite b k e) ∙ false-if-absurd (Bool·beq a b) (λ f. other (signs-agree a b f) (m ∙ sym e)))
         (λ m. ap₂ matches (no-number a x m) (infinite b k e))))
 
-  -- ---- whole patterns, with the bits below the sign taken by a mask
-  module _ (a key : ℕ) (fits : a < 2 ^ (w + p)) (key-fits : key < 2 ^ (w + p)) where
-    pub nan-matches : infBits p w < bitAnd key (top - 1) → ltb (infBits p w) (bitAnd a (top - 1)) ≡ matches (valueOf (binary p w s) a) (valueOf (binary p w s) key)
-    unfolding valueOf
-    nan-matches h = rw (and-mask a (w + p - 1)) (nan-key (leb top a) (leb top key) (a % top) (key % top) (rw (and-mask key (w + p - 1)) at h))
+  -- ---- whole patterns, with a mask and an infinity's bits that a program works out
+  module _ (a key : ℕ) {m i : ℕ} (mask : m ≡ top) (infinity : i ≡ infBits p w) where
+    low-bits : (b : ℕ) → bitAnd b (m - 1) ≡ b % top
+    low-bits b = ap (λ (z : ℕ). bitAnd b (z - 1)) mask ∙ and-mask b (w + p - 1)
 
-    pub zeros-match : (a ≡ key → ⊥) → bitAnd key (top - 1) ≤ infBits p w → eqb (bitOr (bitAnd a (top - 1)) (bitAnd key (top - 1))) 0 ≡ matches (valueOf (binary p w s) a) (valueOf (binary p w s) key)
+    pub nan-matches : i < bitAnd key (m - 1) → ltb i (bitAnd a (m - 1)) ≡ matches (valueOf (binary p w s) a) (valueOf (binary p w s) key)
     unfolding valueOf
-    zeros-match other h =
+    nan-matches h = rw (low-bits a, infinity) (nan-key (leb top a) (leb top key) (a % top) (key % top) (rw (low-bits key, infinity) at h))
+
+    pub zeros-match : a < 2 ^ (w + p) → key < 2 ^ (w + p) → (a ≡ key → ⊥) → bitAnd key (m - 1) ≤ i → eqb (bitOr (bitAnd a (m - 1)) (bitAnd key (m - 1))) 0 ≡ matches (valueOf (binary p w s) a) (valueOf (binary p w s) key)
+    unfolding valueOf
+    zeros-match fits key-fits other h =
         let half = pow-twice-pred (w + p) (omega arith) in
-        rw (and-mask a (w + p - 1), and-mask key (w + p - 1))
-        (other-key (leb top a) (leb top key) (a % top) (key % top) (λ e f. other (parts-only top a key (omega arith) (omega arith) e f)) (rw (and-mask key (w + p - 1)) at h))
+        rw (low-bits a, low-bits key)
+        (other-key (leb top a) (leb top key) (a % top) (key % top) (λ e f. other (parts-only top a key (omega arith) (omega arith) e f)) (rw (low-bits key, infinity) at h))
+
+-- ---- the formats of the table
+abbrev Sizes : FloatFormat → Type 0
+Sizes f = (2 ≤ f .precision) × (0 < f .«exponent_bits») × (f .«exponent_bits» + f .precision ≤ 64)
+
+row-sizes : (f : FloatFormat) → FloatRow f → Sizes f
+row-sizes f (inl e) = subst Sizes (sym e) (lit≤ tt, lit< tt, lit≤ tt)
+row-sizes f (inr e) = subst Sizes (sym e) (lit≤ tt, lit< tt, lit≤ tt)
+
+pub row-patterns : (f : FloatFormat) (a key : ℕ) → FloatRow f → a < 2 ^ bits (floatOf f) → key < 2 ^ bits (floatOf f) → FloatPatterns a key (f .precision) (f .«exponent_bits»)
+row-patterns f a key row fits key-fits = let z = row-sizes f row in record { two = z .0; positive = z .1; at-most-64 = z .2; fits = fits; key-fits = key-fits }

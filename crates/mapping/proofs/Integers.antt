@@ -1,5 +1,4 @@
 -- An integer matches a key exactly where the patterns are equal: for any count of bits.
--- Assumes nothing.
 use mathlib.Core.Path.{_≡_, refl, sym, ap, _∙_}
 use mathlib.Core.Bool.{Bool, true, false}
 use Prim.Native.Nat.{ℕ, _^_, _<_}
@@ -17,12 +16,12 @@ use Rattle.mapping.proofs.Equal.{equal-numbers, false-if-absurd, same-p
 
 -- a pattern is that of its number, in any unit u
 value-only : (s : Bool) (n u a b : ℕ) → 0 < n → 0 < u → a < 2 ^ n → b < 2 ^ n → valueIn s n u a ≡ valueIn s n u b → a ≡ b
-value-only s n u a b some unit f g e = sym (again s n u some unit a f) ∙ ap (λ (z : ℤ). lowBits n (shrZ z u)) e ∙ again s n u some unit b g
+value-only s n u a b positive unit f g e = sym (again s n u positive unit a f) ∙ ap (λ (z : ℤ). lowBits n (shrZ z u)) e ∙ again s n u positive unit b g
 
-module _ (s : Bool) (n a key : ℕ) (some : 0 < n) (fits : a < 2 ^ n) (key-fits : key < 2 ^ n) where
+module _ (s : Bool) (n a key : ℕ) (positive : 0 < n) (fits : a < 2 ^ n) (key-fits : key < 2 ^ n) where
   other-pattern : (a ≡ key → ⊥) → matches (valueOf (integer s n) a) (valueOf (integer s n) key) ≡ false
   unfolding valueOf
-  other-pattern other = false-if-absurd _ (λ e. other (value-only s n (2 ^ 1074) a key some unit-pos fits key-fits (equal-numbers _ _ e)))
+  other-pattern other = false-if-absurd _ (λ e. other (value-only s n (2 ^ 1074) a key positive unit-pos fits key-fits (equal-numbers _ _ e)))
 
   pub integers-match : eqb a key ≡ matches (valueOf (integer s n) a) (valueOf (integer s n) key)
   integers-match = go (eqb a key) refl

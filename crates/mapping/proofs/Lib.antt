@@ -1,5 +1,4 @@
 pub mod Equal
 pub mod Floats
 pub mod Integers
-pub mod Codes
 pub mod Entries

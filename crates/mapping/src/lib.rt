@@ -1,55 +1,48 @@
 // The scalar map: a lookup over lent key and target bytes.
 ghost use mathlib.Core.Path.{_≡_};
-ghost use Prim.Native.Nat.{_*_, _<_, _^_};
+ghost use mathlib.Core.Bool.{Bool};
+ghost use Prim.Native.Nat.{ℕ, _*_, _<_, _^_};
 ghost use Rattle.bytes_le.specs.Bytes.{Place, patternAt};
-ghost use Rattle.patterns.specs.Kind.{f32, f64};
+ghost use Rattle.patterns.specs.Kind.{integer, binary, f32, f64, bits};
 ghost use Rattle.patterns.specs.Value.{valueOf};
-ghost use Rattle.kinds.specs.Codes.{kindOf};
+ghost use Rattle.kinds.specs.Row.{floatOf, FloatRow};
 ghost use Rattle.cast_spec.specs.Element.{matches, lookupOf};
 ghost use Rattle.cast_spec.specs.Chunk.{entriesFrom};
-ghost use Rattle.mapping.specs.Map.{FloatPatterns, FloatMap, IntegerMap};
+ghost use Rattle.mapping.specs.Map.{FloatPatterns, MapBytes};
+use kinds::FloatFormat;
 use kinds::Lookup;
 
-// Whether an f64 matches a key: equal patterns, two NaNs, or two zeros.
-pub fn matches_f64(a: u64, key: u64) -> bool
-    ensures { λ r. ⌜ r ≡ matches (valueOf f64 a) (valueOf f64 key) ⌝ }
+// Whether a float matches a key: equal patterns, two NaNs, or two zeros. The format has p significant bits and w bits of exponent field.
+pub fn matches_float(a: u64, key: u64, p: u32, w: u32) -> bool
+    requires { ⌜ FloatPatterns a key p w ⌝ }
+    ensures { λ r. ⌜ ((s : ℕ) → r ≡ matches (valueOf (binary p w s) a) (valueOf (binary p w s) key)) ⌝ }
 {
     if a == key {
         return true;
     }
-    let x = a & 0x7fff_ffff_ffff_ffff;
-    let k = key & 0x7fff_ffff_ffff_ffff;
-    if 0x7ff0_0000_0000_0000 < k {
-        return 0x7ff0_0000_0000_0000 < x;
+    let mask = (1u64 << (w + p - 1)) - 1;
+    let infinity = ((1u64 << w) - 1) << (p - 1);
+    let x = a & mask;
+    let k = key & mask;
+    if infinity < k {
+        return infinity < x;
     }
     (x | k) == 0
 }
 
-// Whether an f32 matches a key, likewise.
+// Whether an f64 matches a key.
+pub fn matches_f64(a: u64, key: u64) -> bool
+    ensures { λ r. ⌜ r ≡ matches (valueOf f64 a) (valueOf f64 key) ⌝ }
+{
+    matches_float(a, key, 53, 11)
+}
+
+// Whether an f32 matches a key.
 pub fn matches_f32(a: u64, key: u64) -> bool
     requires { ⌜ (a < 2 ^ 32) × (key < 2 ^ 32) ⌝ }
     ensures { λ r. ⌜ r ≡ matches (valueOf f32 a) (valueOf f32 key) ⌝ }
 {
-    if a == key {
-        return true;
-    }
-    let x = a & 0x7fff_ffff;
-    let k = key & 0x7fff_ffff;
-    if 0x7f80_0000 < k {
-        return 0x7f80_0000 < x;
-    }
-    (x | k) == 0
-}
-
-// Whether a float matches a key of its kind, by the kind's code.
-fn matches_float(a: u64, key: u64, code: u8) -> bool
-    requires { ⌜ FloatPatterns a key code ⌝ }
-    ensures { λ r. ⌜ r ≡ matches (valueOf (kindOf code) a) (valueOf (kindOf code) key) ⌝ }
-{
-    if code == 8 {
-        return matches_f32(a, key);
-    }
-    matches_f64(a, key)
+    matches_float(a, key, 24, 8)
 }
 
 // The pattern of the element at the position j of a chunk s of elements of w bytes.
@@ -66,17 +59,17 @@ pub fn apply_scalar_map_float(
     keys: &[u8],
     targets: &[u8],
     n: usize,
-    from: u8,
+    format: FloatFormat,
     sw: usize,
     dw: usize,
 ) -> Lookup
-    requires { ⌜ FloatMap b (now keys) (now targets) n from sw dw ⌝ }
-    ensures { λ r. ⌜ r ≡ lookupOf (kindOf from) (valueOf (kindOf from) b) (entriesFrom sw dw (now (keys .entry)) (now (targets .entry)) 0 n) ⌝ }
+    requires { ⌜ FloatRow format × MapBytes (bits (floatOf format)) b (now keys) (now targets) n sw dw ⌝ }
+    ensures { λ r. ⌜ r ≡ lookupOf (floatOf format) (valueOf (floatOf format) b) (entriesFrom sw dw (now (keys .entry)) (now (targets .entry)) 0 n) ⌝ }
 {
     let mut j: usize = 0;
     while j < n {
         let key = pattern_at(keys, j, sw);
-        if matches_float(b, key, from) {
+        if matches_float(b, key, format.precision, format.exponent_bits) {
             return Lookup::Found(pattern_at(targets, j, dw));
         }
         j += 1;
@@ -84,18 +77,17 @@ pub fn apply_scalar_map_float(
     Lookup::Missing
 }
 
-// The target of the first of n entries whose key is the integer b; sw and dw are the bytes of a key and of a target.
+// The target of the first of n entries whose key is the integer b, whatever its sign; sw and dw are the bytes of a key and of a target.
 pub fn apply_scalar_map_int(
     b: u64,
     keys: &[u8],
     targets: &[u8],
     n: usize,
-    from: u8,
     sw: usize,
     dw: usize,
 ) -> Lookup
-    requires { ⌜ IntegerMap b (now keys) (now targets) n from sw dw ⌝ }
-    ensures { λ r. ⌜ r ≡ lookupOf (kindOf from) (valueOf (kindOf from) b) (entriesFrom sw dw (now (keys .entry)) (now (targets .entry)) 0 n) ⌝ }
+    requires { ⌜ MapBytes (8 * sw) b (now keys) (now targets) n sw dw ⌝ }
+    ensures { λ r. ⌜ ((signed : Bool) → r ≡ lookupOf (integer signed (8 * sw)) (valueOf (integer signed (8 * sw)) b) (entriesFrom sw dw (now (keys .entry)) (now (targets .entry)) 0 n)) ⌝ }
 {
     let mut i: usize = 0;
     while i < n {

@@ -1,5 +1,4 @@
 -- The order of the values is the order of the signed bits, for any precision, exponent width and spacing.
--- Assumes nothing.
 use mathlib.Core.Path.{_≡_, sym, ap, subst, _∙_}
 use mathlib.Core.Bool.{Bool, true, false, not}
 use Prim.Native.Nat.{ℕ, _+_, _^_, _≤_, _<_}

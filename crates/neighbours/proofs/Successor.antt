@@ -1,5 +1,4 @@
 -- `nextUp` gives the next number up, for any precision, exponent width and spacing.
--- Assumes nothing.
 use mathlib.Core.Path.{_≡_, refl, sym, ap, subst, _∙_}
 use mathlib.Core.Bool.{Bool, true, false}
 use Prim.Native.Nat.{ℕ, suc, _+_, _-_, _*_, _%_, _^_, _≤_, _<_}
@@ -71,7 +70,7 @@ module _ (p w s b : ℕ) (two : 2 ≤ p) (one : 0 < w) (fit : b < 2 ^ (w + p)) w
   abbrev Step : Bool → ℕ → Type 0
   Step j y = up (signed j y) + dn (signed neg x) ≡ suc (up (signed neg x) + dn (signed j y))
 
-  module _ (small : x ≤ I) (j : Bool) (y : ℕ) (held : y ≤ I) (next : Step j y) (keeps : y ≡ 0 → j ≡ neg) where
+  module _ (small : x ≤ I) (j : Bool) (y : ℕ) (finite : y ≤ I) (next : Step j y) (keeps : y ≡ 0 → j ≡ neg) where
     room : y < H
     room = omega (arith, inf-under)
 
@@ -94,7 +93,7 @@ module _ (p w s b : ℕ) (two : 2 ≤ p) (one : 0 < w) (fit : b < 2 ^ (w + p)) w
     unfolding valueOf
     least = record {
       fits = floats.sign-lt p w s two one j y room;
-      above = rw at-y (ranks-below p w s two one neg j x y small held (omega (ints, next)));
+      above = rw at-y (ranks-below p w s two one neg j x y small finite (omega (ints, next)));
       none-between = λ c h a d.
           let l = below-ranks p w s two one neg (negative (binary p w s) c) x (c % H) a in
           let m = below-ranks p w s two one (negative (binary p w s) c) j (c % H) y (rw at-y at d) in

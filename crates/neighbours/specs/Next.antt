@@ -1,5 +1,4 @@
--- "Next number up and down: the next above -2^-149 in f32 is -0." What it is, and then how the patterns give it.
--- Assumes nothing.
+-- To be believed: "Next number up and down: the next above -2^-149 in f32 is -0." What it is, and then how the patterns give it.
 use mathlib.Core.Path.{_≡_}
 use mathlib.Core.Bool.{true, false, not, cond}
 use Prim.Native.Nat.{ℕ, _+_, _-_, _%_, _^_, _≤_, _<_}
@@ -65,8 +64,8 @@ upFrom p w b x = upBy (infBits p w) (2 ^ (w + p - 1)) b x
 
 -- a pattern of a format whose sign's bit is h
 pub record SignBit (b h : ℕ) : Type 0 where
-  pub some : 0 < h
-  pub most : h ≤ 2 ^ 63
+  pub positive : 0 < h
+  pub within-64-bits : h ≤ 2 ^ 63
   pub fits : b < h + h
 
 unfoldable pub nextUp : ℕ → ℕ → ℕ → ℕ

@@ -1,5 +1,4 @@
 -- Any kind: the sign of a pattern is that of its number, and a number of the kind's range and grid has one pattern of each sign.
--- Assumes nothing.
 use mathlib.Core.Path.{_≡_, refl, sym, ap, subst, _∙_}
 use mathlib.Core.Bool.{Bool, true, false, cond}
 use Prim.Native.Nat.{ℕ, _+_, _-_, _*_, _%_, _^_, _≤_, _<_, suc, zero}
@@ -74,7 +73,7 @@ pub ends-meet : (k : Kind) → lowest k ≤ℤ highest k
 ends-meet k = omega (ints, low-zero k, high-zero k)
 
 on-unit : (m : ℕ) → OnMag (whole 1074) (m * 2 ^ 1074)
-on-unit m = record { m = m; e = 1074; is = (refl, refl) }
+on-unit m = record { m = m; e = 1074; written = (refl, refl) }
 
 abs-neg : (m : ℕ) → natAbs (negℤ (pos m)) ≡ m
 abs-neg zero = refl
@@ -99,7 +98,7 @@ pub unit-pos : 0 < 2 ^ 1074
 unit-pos = pow-pos 1074
 
 pub multiple : (y : ℤ) → OnGrid (whole 1074) y → (q : ℕ) × (natAbs y ≡ q * 2 ^ 1074)
-multiple y on = (on .m, on .is .1 ∙ ap (λ (z : ℕ). on .m * 2 ^ z) (on .is .0))
+multiple y on = (on .m, on .written .1 ∙ ap (λ (z : ℕ). on .m * 2 ^ z) (on .written .0))
 
 pub int-back : (s : Bool) (n : ℕ) (neg : Bool) (y : ℤ) → 0 < n → OnGrid (whole 1074) y → InRange (integer s n) y → valueOf (integer s n) (patternOf (integer s n) neg y) ≡ num y
 unfolding valueOf patternOf highest
@@ -110,6 +109,11 @@ int-back s n neg y ok on h =
 pub int-fits : (s : Bool) (n : ℕ) (neg : Bool) (y : ℤ) → 0 < n → patternOf (integer s n) neg y < 2 ^ n
 unfolding patternOf
 int-fits s n neg y ok = integers.low-bits-lt s n (2 ^ 1074) ok unit-pos (shrZ y (2 ^ 1074))
+
+-- a whole number's pattern is its lowest bits
+pub whole-pattern : (s : Bool) (n : ℕ) (neg t : Bool) (M : ℕ) → patternOf (integer s n) t (signed neg (M * 2 ^ 1074)) ≡ lowBits n (signed neg M)
+unfolding patternOf
+whole-pattern s n neg t M = ap (lowBits n) (integers.over-unit neg M (2 ^ 1074) unit-pos)
 
 abs-le : (M : ℕ) (y : ℤ) → negℤ (pos M) ≤ℤ y → y ≤ℤ pos M → natAbs y ≤ M
 abs-le M y l h = omega (ints, abs-is y, one-part y, up-neg (pos M), dn-neg (pos M))

@@ -1,5 +1,4 @@
 -- q units of 2 ^ (k + s) have the bits k * 2 ^ (p - 1) + q. And the bits are in the order of the magnitudes.
--- Assumes nothing.
 use mathlib.Core.Path.{_≡_, refl, sym, ap, ap₂, _∙_}
 use Prim.Native.Nat.{ℕ, zero, suc, _+_, _-_, _*_, _/_, _%_, _^_, _≤_, _<_}
 use native.Mathlib.Decide.{le-ind}

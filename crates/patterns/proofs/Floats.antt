@@ -1,5 +1,4 @@
 -- The number of a float kind's pattern, for any precision, exponent width and spacing.
--- Assumes nothing.
 use mathlib.Core.Path.{_≡_, refl, sym, ap, ap₂, _∙_, subst}
 use mathlib.Core.Bool.{Bool, true, false, cond}
 use Prim.Native.Nat.{ℕ, zero, suc, _+_, _-_, _*_, _/_, _%_, _^_, _≤_, _<_}
@@ -11,7 +10,7 @@ use lib.Ieee.{size}
 use lib.IntN.{ℤ, natAbs, negℤ, pos}
 use lib.Pow.{pow-pos, pow-mono, pow-add, suc-ones}
 use lib.Signed.{_≤ℤ_}
-use borrow.Author.Tests.{le-leb, lt-leb, lt-ltb, le-ltb, eq-eqb, ne-eqb, ltb-true}
+use borrow.Author.Tests.{eq-eqb, eqb-false, eqb-true, le-leb, le-ltb, lt-leb, lt-ltb, ltb-false, ltb-true, ne-eqb}
 use Rattle.grid.specs.Grid.{float, OnMag, OnGrid}
 use Rattle.grid.specs.declared.RoundingMode.the-variants.{TowardsZero}
 use Rattle.grid.specs.Round.{pickMag, unitExp, signed}
@@ -34,6 +33,35 @@ module _ (p w s : ℕ) (neg : Bool) (x : ℕ) where
 
   pub is-nan : infBits p w < x → floatValue p w s neg x ≡ nan
   is-nan h = simp (le-ltb x (infBits p w) (omega arith), ne-eqb x (infBits p w) (λ (e : x ≡ infBits p w). omega arith))
+
+-- ---- back from the value of a pattern
+module _ (p w s b : ℕ) where
+  pub infinity-sign : (neg : Bool) → valueOf (binary p w s) b ≡ inf neg → neg ≡ negative (binary p w s) b
+  unfolding valueOf
+  infinity-sign neg e = go (ltb (b % 2 ^ (w + p - 1)) (infBits p w)) (eqb (b % 2 ^ (w + p - 1)) (infBits p w)) e
+    where
+      go : (c d : Bool) → cond c (num (signed (negative (binary p w s) b) (bitsMag p s (b % 2 ^ (w + p - 1))))) (cond d (inf (negative (binary p w s) b)) nan) ≡ inf neg → neg ≡ negative (binary p w s) b
+      go true d f = let z : _≡_ {A = ℕ} 0 1 = cc in absurd (omega arith)
+      go false true f = cc
+      go false false f = let z : _≡_ {A = ℕ} 0 1 = cc in absurd (omega arith)
+
+  pub infinity-bits : (neg : Bool) → valueOf (binary p w s) b ≡ inf neg → b % 2 ^ (w + p - 1) ≡ infBits p w
+  unfolding valueOf
+  infinity-bits neg e = go (ltb (b % 2 ^ (w + p - 1)) (infBits p w)) (eqb (b % 2 ^ (w + p - 1)) (infBits p w)) refl e
+    where
+      go : (c d : Bool) → eqb (b % 2 ^ (w + p - 1)) (infBits p w) ≡ d → cond c (num (signed (negative (binary p w s) b) (bitsMag p s (b % 2 ^ (w + p - 1))))) (cond d (inf (negative (binary p w s) b)) nan) ≡ inf neg → b % 2 ^ (w + p - 1) ≡ infBits p w
+      go true d h f = let z : _≡_ {A = ℕ} 0 1 = cc in absurd (omega arith)
+      go false true h f = eqb-true (b % 2 ^ (w + p - 1)) (infBits p w) h
+      go false false h f = let z : _≡_ {A = ℕ} 0 1 = cc in absurd (omega arith)
+
+  pub nan-bits : valueOf (binary p w s) b ≡ nan → infBits p w < b % 2 ^ (w + p - 1)
+  unfolding valueOf
+  nan-bits e = go (ltb (b % 2 ^ (w + p - 1)) (infBits p w)) (eqb (b % 2 ^ (w + p - 1)) (infBits p w)) refl refl e
+    where
+      go : (c d : Bool) → ltb (b % 2 ^ (w + p - 1)) (infBits p w) ≡ c → eqb (b % 2 ^ (w + p - 1)) (infBits p w) ≡ d → cond c (num (signed (negative (binary p w s) b) (bitsMag p s (b % 2 ^ (w + p - 1))))) (cond d (inf (negative (binary p w s) b)) nan) ≡ nan → infBits p w < b % 2 ^ (w + p - 1)
+      go true d g h f = let z : _≡_ {A = ℕ} 0 1 = cc in absurd (omega arith)
+      go false true g h f = let z : _≡_ {A = ℕ} 0 1 = cc in absurd (omega arith)
+      go false false g h f = omega (arith, ltb-false (b % 2 ^ (w + p - 1)) (infBits p w) g, eqb-false (b % 2 ^ (w + p - 1)) (infBits p w) h)
 
 pub abs-signed : (neg : Bool) (m : ℕ) → natAbs (signed neg m) ≡ m
 abs-signed false m = refl
@@ -81,22 +109,22 @@ module _ (p w s : ℕ) (two : 2 ≤ p) (some : 0 < w) where
   pub inf-fits : (neg : Bool) → infinity p w neg < 2 ^ (w + p)
   inf-fits neg = sign-lt neg (infBits p w) inf-lt
 
-  -- ---- NaNs: what `quiet` gives is above an infinity's bits, and below the sign
+  -- ---- NaNs: a fraction keeps an infinity's bits below the sign
+  pub nan-lt : (q : ℕ) → q < 2 ^ (p - 1) → infBits p w + q < 2 ^ (w + p - 1)
+  nan-lt q l =
+      let a : suc (2 ^ w - 1) * 2 ^ (p - 1) ≡ 2 ^ (w + p - 1) = ap (λ (z : ℕ). z * 2 ^ (p - 1)) (suc-ones w) ∙ sym (pow-add 2 w (p - 1)) ∙ ap (λ (z : ℕ). 2 ^ z) (omega arith) in
+      omega arith
+
   pub nan-back : (neg : Bool) (q : ℕ) → 0 < q → q < 2 ^ (p - 1) → valueOf (binary p w s) (withSign (w + p) neg (infBits p w + q)) ≡ nan
-  nan-back neg q h l = read neg (infBits p w + q) room ∙ simp (le-ltb (infBits p w + q) (infBits p w) (omega arith), ne-eqb (infBits p w + q) (infBits p w) (λ (e : infBits p w + q ≡ infBits p w). omega arith))
-    where
-      room : infBits p w + q < 2 ^ (w + p - 1)
-      room =
-          let a : suc (2 ^ w - 1) * 2 ^ (p - 1) ≡ 2 ^ (w + p - 1) = ap (λ (z : ℕ). z * 2 ^ (p - 1)) (suc-ones w) ∙ sym (pow-add 2 w (p - 1)) ∙ ap (λ (z : ℕ). 2 ^ z) (omega arith) in
-          omega arith
+  nan-back neg q h l = read neg (infBits p w + q) (nan-lt q l) ∙ simp (le-ltb (infBits p w + q) (infBits p w) (omega arith), ne-eqb (infBits p w + q) (infBits p w) (λ (e : infBits p w + q ≡ infBits p w). omega arith))
 
   -- ---- a grid number's own bits
   module _ (m : ℕ) (on : OnMag (float p s) m) where
-    whole-units : m / 2 ^ unitExp (float p s) m * 2 ^ unitExp (float p s) m ≡ m
+    pub whole-units : m / 2 ^ unitExp (float p s) m * 2 ^ unitExp (float p s) m ≡ m
     unfolding pickMag
     whole-units = ap natAbs (picked-pos (float p s) two TowardsZero m .itself on)
 
-    mag-back : bitsMag p s (magBits p s m) ≡ m
+    pub mag-back : bitsMag p s (magBits p s m) ≡ m
     mag-back =
         let e = unitExp (float p s) m in
         encode p s (e - s) (m / 2 ^ e) (omega arith) (omega (arith, kept-lt p s m)) (λ (h : 0 < e - s). kept-full p s m two (omega arith))
@@ -131,8 +159,8 @@ module _ (p w s : ℕ) (two : 2 ≤ p) (some : 0 < w) where
   on-bits x = go (x / 2 ^ (p - 1)) (x % 2 ^ (p - 1)) (mod-lt x (pow-pos (p - 1)))
     where
       go : (f t : ℕ) → t < 2 ^ (p - 1) → OnMag (float p s) (fieldMag p s f t)
-      go zero t h = record { m = t; e = s; is = (omega (arith, pow-twice-pred p (omega arith)), omega arith, refl) }
-      go (suc f) t h = record { m = 2 ^ (p - 1) + t; e = f + s; is = (omega (arith, pow-twice-pred p (omega arith)), omega arith, refl) }
+      go zero t h = record { m = t; e = s; written = (omega (arith, pow-twice-pred p (omega arith)), omega arith, refl) }
+      go (suc f) t h = record { m = 2 ^ (p - 1) + t; e = f + s; written = (omega (arith, pow-twice-pred p (omega arith)), omega arith, refl) }
 
   pub bits-again : (x : ℕ) → magBits p s (bitsMag p s x) ≡ x
   bits-again x =
@@ -184,8 +212,8 @@ module _ (p w s : ℕ) (two : 2 ≤ p) (some : 0 < w) where
       beyond false {m} {M} l k = omega (ints, k .1)
 
   -- a finite pattern's number is on the grid and in range
-  pub number-held : (b : ℕ) (x : ℤ) → valueOf (binary p w s) b ≡ num x → OnGrid (float p s) x × InRange (binary p w s) x
-  number-held b x is =
+  pub number-of-format : (b : ℕ) (x : ℤ) → valueOf (binary p w s) b ≡ num x → OnGrid (float p s) x × InRange (binary p w s) x
+  number-of-format b x is =
       let f = finite-parts b x is in
       let neg = negative (binary p w s) b in
       let r = b % 2 ^ (w + p - 1) in

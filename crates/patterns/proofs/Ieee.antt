@@ -1,5 +1,4 @@
 -- The value of an f32's or f64's pattern is that of the language's own account of IEEE 754, `lib.Ieee.ofBits`.
--- Assumes nothing.
 use mathlib.Core.Path.{_≡_, refl, sym, ap, ap₂, subst, _∙_}
 use mathlib.Core.Bool.{Bool, true, false, cond}
 use Prim.Native.Nat.{ℕ, zero, suc, _+_, _-_, _*_, _/_, _%_, _^_, _≤_, _<_}

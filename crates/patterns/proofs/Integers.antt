@@ -1,9 +1,8 @@
 -- The number of an integer kind's pattern: for any count of bits, and any unit u.
--- Assumes nothing.
 use mathlib.Core.Path.{_≡_, refl, sym, ap, _∙_}
 use mathlib.Core.Bool.{Bool, true, false, _&&_, cond}
 use Prim.Native.Nat.{ℕ, zero, suc, _+_, _-_, _*_, _/_, _%_, _^_, _≤_, _<_}
-use native.Mathlib.Nat.{div-add-mod', mod-lt, mod-eq-of-lt, mul-div-cancel, le-of-mul-le-mul-right, mul-le-mul-right, add-mul, mul-assoc, zero-mul}
+use native.Mathlib.Nat.{div-add-mod', mod-lt, mod-eq-of-lt, mul-div-cancel, le-of-mul-le-mul-right, mul-le-mul-right, add-mul, mul-assoc, mul-pos, zero-mul, div-eq-of-lt}
 use native.Mathlib.Omega.{arith}
 use lib.Arith.{digits-div}
 use lib.Dec.{leb}
@@ -38,7 +37,7 @@ minus : (s : Bool) (n u b : ℕ) → negative (integer s n) b ≡ true → value
 minus s n u b e = ap {B = ℤ} (λ (t : Bool). signed t (cond t (2 ^ n - b) b * u)) e
 
 -- ---- a multiple of u, over u
-pub below : (a q u : ℕ) → 0 < u → suc a ≡ suc q * u → a / u ≡ q
+below : (a q u : ℕ) → 0 < u → suc a ≡ suc q * u → a / u ≡ q
 below a q u h e = ap (λ (z : ℕ). z / u) (last a q u h e) ∙ digits-div q (less u h)
   where
     last : (a q u : ℕ) → 0 < u → suc a ≡ suc q * u → a ≡ q * u + (u - 1)
@@ -46,6 +45,18 @@ below a q u h e = ap (λ (z : ℕ). z / u) (last a q u h e) ∙ digits-div q (le
 
     less : (u : ℕ) → 0 < u → u - 1 < u
     less u h = omega arith
+
+pub over-unit : (neg : Bool) (N u : ℕ) → 0 < u → shrZ (signed neg (N * u)) u ≡ signed neg N
+over-unit false N u h = ap pos (mul-div-cancel N h)
+over-unit true zero u h = ap (λ (z : ℕ). shrZ (negℤ (pos z)) u) (zero-mul u) ∙ ap pos (div-zero u h)
+  where
+    div-zero : (u : ℕ) → 0 < u → 0 / u ≡ 0
+    div-zero u h = div-eq-of-lt h
+over-unit true (suc q) u h = go (suc q * u) (mul-pos {m = suc q} (omega arith) h) refl
+  where
+    go : (m : ℕ) → 0 < m → m ≡ suc q * u → shrZ (negℤ (pos m)) u ≡ negsuc q
+    go zero l e = absurd (omega arith)
+    go (suc a) l e = ap negsuc (below a q u h e)
 
 -- ---- sums and products of ℤ by their parts
 pub add-parts : (x y : ℤ) → up (x +ℤ y) + (dn x + dn y) ≡ dn (x +ℤ y) + (up x + up y)
@@ -105,8 +116,8 @@ module _ (s : Bool) (n u : ℕ) (some : 0 < n) (unit : 0 < u) where
       go true = omega (ints, up-neg (pos (2 ^ (n - 1) * u)), dn-neg (pos (2 ^ (n - 1) * u)))
       go false = omega ints
 
-  pub value-held : (b : ℕ) → b < 2 ^ n → (lowIn s n u ≤ℤ valueIn s n u b) × (valueIn s n u b ≤ℤ pos (highInt s n * u))
-  value-held b h = go (negative (integer s n) b) refl
+  pub value-in-range : (b : ℕ) → b < 2 ^ n → (lowIn s n u ≤ℤ valueIn s n u b) × (valueIn s n u b ≤ℤ pos (highInt s n * u))
+  value-in-range b h = go (negative (integer s n) b) refl
     where
       go : (t : Bool) → negative (integer s n) b ≡ t → (lowIn s n u ≤ℤ valueIn s n u b) × (valueIn s n u b ≤ℤ pos (highInt s n * u))
       go false e = rw (plus s n u b e) (low-under (b * u), omega (ints, mul-le-mul-right u (small b h e)))

@@ -1,3 +1,4 @@
+pub mod Shifts
 pub mod Encode
 pub mod PickBits
 pub mod Floats

@@ -1,5 +1,4 @@
 -- The bits of the pick of m × 2^e on a float's grid: the exponent field of the spacing there, and the kept part, carry included.
--- Assumes nothing.
 use mathlib.Core.Path.{_≡_, sym, ap, subst, _∙_}
 use Prim.Native.Nat.{ℕ, _+_, _-_, _*_, _/_, _%_, _^_, _≤_, _<_, max}
 use native.Mathlib.Nat.{le-trans, mul-div-mul-right, le-max-left, sub-add-cancel}

@@ -1,5 +1,4 @@
--- The magnitude of a float's bits, as a sum of powers of two in its fields.
--- Assumes nothing.
+-- To be believed: the magnitude of a float's bits, as a sum of powers of two in its fields.
 use Prim.Native.Nat.{ℕ, zero, suc, _+_, _-_, _*_, _/_, _%_, _^_}
 
 -- "Sign, exponent field and fraction": field x and fraction t of a float of p significant bits and smallest spacing 2^s.

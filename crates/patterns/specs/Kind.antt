@@ -1,7 +1,6 @@
--- Number kinds by what they are, their grids and their finite ranges.
--- Assumes nothing.
+-- To be believed: number kinds by what they are, their widths, their grids and their finite ranges.
 use mathlib.Core.Bool.{Bool, true, false}
-use Prim.Native.Nat.{ℕ, _+_, _-_, _*_, _^_, _≤_, _<_}
+use Prim.Native.Nat.{ℕ, _+_, _-_, _*_, _/_, _^_, _≤_, _<_}
 use lib.IntN.{ℤ, pos, negℤ}
 use lib.Signed.{_≤ℤ_}
 use Rattle.grid.specs.Grid.{Grid, whole, float}
@@ -23,6 +22,10 @@ f64 = binary 53 11 0
 abbrev pub bits : Kind → ℕ
 bits (integer s n) = n
 bits (binary p w s) = w + p
+
+-- the bytes of an element
+abbrev pub width : Kind → ℕ
+width k = bits k / 8
 
 -- "The grid of an integer kind is all whole numbers. A float kind .. has for its grid every m × 2^e": no largest exponent
 abbrev pub gridOf : Kind → Grid

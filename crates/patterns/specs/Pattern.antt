@@ -1,5 +1,4 @@
--- The bit pattern of a number, of an infinity and of a NaN.
--- Assumes nothing.
+-- To be believed: the bit pattern of a number, of an infinity and of a NaN.
 use mathlib.Core.Bool.{Bool, cond}
 use Prim.Native.Nat.{ℕ, _+_, _-_, _*_, _/_, _%_, _^_}
 use lib.Dec.{eqb}

@@ -1,5 +1,4 @@
--- What a bit pattern of a kind stands for.
--- Assumes nothing.
+-- To be believed: what a bit pattern of a kind stands for.
 use mathlib.Core.Bool.{Bool, _&&_, cond}
 use Prim.Native.Nat.{ℕ, _+_, _-_, _*_, _%_, _^_}
 use lib.Dec.{eqb, ltb, leb}

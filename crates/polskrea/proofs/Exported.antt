@@ -1,5 +1,4 @@
 -- The chunk call's answer, handed out as a number and words, is the definition's.
--- Assumes nothing.
 use mathlib.Core.List.{List}
 use mathlib.Core.Path.{_≡_, ap, _∙_, subst}
 use Prim.Native.Nat.{ℕ}

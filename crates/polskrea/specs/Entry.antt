@@ -1,5 +1,4 @@
--- What an exported call returns: the paper's number, the fields of the answer as four 64-bit words, and the destination.
--- Assumes nothing.
+-- To be believed: what an exported call returns: the paper's number, the fields of the answer as four 64-bit words, and the destination.
 use mathlib.Core.Path.{_≡_}
 use mathlib.Core.List.{List, [], _∷_}
 use Prim.Native.Nat.{ℕ}

@@ -1,10 +1,9 @@
--- What an exported typed call returns: what the chunk call's entry returns, of the bytes that the elements, keys and targets have.
--- Assumes nothing.
+-- To be believed: what an exported typed call returns: what the exported chunk call returns, of the bytes that the elements, keys and targets have.
 use mathlib.Core.List.{List}
 use Prim.Native.Nat.{ℕ}
+use Rattle.patterns.specs.Kind.{width}
 use Rattle.kinds.specs.Codes.{kindOf}
 use Rattle.cast_spec.specs.Element.{Entry}
-use Rattle.cast_spec.specs.Chunk.{width}
 use Rattle.typed.specs.Typed.{typedInputs, bytesOf}
 use Rattle.polskrea.specs.Entry.{Returned}
 

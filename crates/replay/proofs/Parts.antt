@@ -1,5 +1,4 @@
 -- A list's first bytes are as many as were asked, and hold the first three of the four parts that they were counted by.
--- Assumes nothing.
 use mathlib.Core.Path.{_≡_, sym}
 use mathlib.Core.List.{List}
 use Prim.Native.Nat.{ℕ, _+_, _≤_}

@@ -1,5 +1,4 @@
 -- The lines of a report, part by part, and the room that they take.
--- Assumes nothing.
 use mathlib.Core.Path.{_≡_, refl, sym, ap, subst, _∙_}
 use mathlib.Core.Bool.{Bool, cond}
 use mathlib.Core.List.{List, [], _++_, append-assoc, append-nil}
@@ -13,7 +12,7 @@ use Rattle.bytes_le.specs.Bytes.{fromLe, patternAt}
 use Rattle.text.specs.Text.{digits, decimal}
 use Rattle.text.specs.Wrote.{Wrote}
 use Rattle.report.specs.Report.{ok, refused, at, newline, okLine, refusedLine, line, lines}
-use Rattle.report.specs.Room.{LinesIn, LineIn}
+use Rattle.report.specs.Room.{LinesFit, LineFits}
 use Rattle.text.proofs.Writes.{wrote-none, wrote-length, wrote-then}
 use Rattle.text.proofs.Numbers.{length-digits, decimal-short, decimal-one}
 
@@ -85,9 +84,9 @@ pub record LinesAt (d : List ℕ) (a : ℕ) (bytes : List ℕ) (w k i from to : 
   pub wrote : Wrote d a (lines w bytes 0 i) to d′
   pub same : length d′ ≡ length d
 
-module _ (d : List ℕ) (a : ℕ) (bytes : List ℕ) (w k : ℕ) (ask : LinesIn d a bytes w k) where
+module _ (d : List ℕ) (a : ℕ) (bytes : List ℕ) (w k : ℕ) (ask : LinesFit d a bytes w k) where
   pub lines-start : LinesAt d a bytes w k 0 0 a d
-  lines-start = record { order = omega arith; place = omega arith; wrote = wrote-none d a (omega (arith, ask .room)); same = refl }
+  lines-start = record { order = omega arith; place = omega arith; wrote = wrote-none d a (omega (arith, ask .fits)); same = refl }
 
   module _ (i from to : ℕ) (d′ : List ℕ) (at : LinesAt d a bytes w k i from to d′) where
     pub lines-end : k ≤ i → Wrote d a (lines w bytes 0 k) to d′
@@ -100,14 +99,14 @@ module _ (d : List ℕ) (a : ℕ) (bytes : List ℕ) (w k : ℕ) (ask : LinesIn 
       pub from-within : from + w ≤ length bytes
       from-within = subst (λ (z : ℕ). z + w ≤ length bytes) (sym (at .place)) (fit w (length bytes) (ask .whole))
 
-      pub line-asks : LineIn d′ to bytes from w
+      pub line-asks : LineFits d′ to bytes from w
       line-asks = record {
         place = record { width = ask .width; within = from-within };
-        room = room;
+        fits = room;
       }
         where
           room : to + (2 * w + 1) ≤ length d′
-          room = omega (arith, at .same, at .wrote .next, length-lines w bytes 0 i, ask .room, fit (2 * w + 1) (k * (2 * w + 1)) (le-refl (k * (2 * w + 1))))
+          room = omega (arith, at .same, at .wrote .next, length-lines w bytes 0 i, ask .fits, fit (2 * w + 1) (k * (2 * w + 1)) (le-refl (k * (2 * w + 1))))
 
       pub lines-go-on : (r : ℕ) (d″ : List ℕ) → Wrote d′ to (line w (fromLe (take w (drop from bytes)))) r d″ → LinesAt d a bytes w k (i + 1) (from + w) r d″
       lines-go-on r d″ v = record {

@@ -1,5 +1,4 @@
 -- The first line and the lines after it make the report, and there is room for them.
--- Assumes nothing.
 use mathlib.Core.Path.{_≡_, sym, subst, _∙_}
 use mathlib.Core.Bool.{Bool, true, false, cond}
 use mathlib.Core.List.{List, [], _++_}
@@ -15,7 +14,7 @@ use Rattle.kinds.specs.declared.Answer.the-variants.{Converted, UnknownCode, Br
 use Rattle.text.specs.Text.{decimal}
 use Rattle.text.specs.Wrote.{Wrote}
 use Rattle.report.specs.Report.{refused, at, newline, okLine, refusedLine, lines, report}
-use Rattle.report.specs.Room.{LinesIn, ReportIn}
+use Rattle.report.specs.Room.{LinesFit, ReportFits}
 use Rattle.text.proofs.Writes.{wrote-length, wrote-then}
 use Rattle.text.proofs.Numbers.{decimal-short, decimal-one}
 
@@ -40,13 +39,13 @@ number-small (NanOrInf i v) = omega arith
 number-small (OutOfRange i v lo hi) = omega arith
 number-small (FloatOutOfRange i v lo hi) = omega arith
 
-module _ (d bytes : List ℕ) (answer : Answer) (n w : ℕ) (ask : ReportIn d bytes answer n w) where
+module _ (d bytes : List ℕ) (answer : Answer) (n w : ℕ) (ask : ReportFits d bytes answer n w) where
   -- k lines after a first line x
-  lines-ask : (x : List ℕ) (k r : ℕ) (d₁ : List ℕ) → Wrote d 0 x r d₁ → length x ≤ 18 → k ≤ n → LinesIn d₁ r bytes w k
+  lines-ask : (x : List ℕ) (k r : ℕ) (d₁ : List ℕ) → Wrote d 0 x r d₁ → length x ≤ 18 → k ≤ n → LinesFit d₁ r bytes w k
   lines-ask x k r d₁ v short h = record {
     width = ask .width;
     whole = le-trans (mul-le-mul-right w h) (ask .whole);
-    room = omega (arith, v .next, wrote-length v, ask .room, mul-le-mul-right (2 * w + 1) h);
+    fits = omega (arith, v .next, wrote-length v, ask .fits, mul-le-mul-right (2 * w + 1) h);
   }
 
   -- the report by the test of the number
@@ -56,8 +55,8 @@ module _ (d bytes : List ℕ) (answer : Answer) (n w : ℕ) (ask : ReportIn d by
 
   -- ---- all converted
   module _ (r : ℕ) (d₁ : List ℕ) (v : Wrote d 0 (okLine n) r d₁) where
-    pub ok-lines-ask : LinesIn d₁ r bytes w n
-    ok-lines-ask = lines-ask (okLine n) n r d₁ v (omega (arith, ok-short n (ask .few))) (le-refl n)
+    pub ok-lines-ask : LinesFit d₁ r bytes w n
+    ok-lines-ask = lines-ask (okLine n) n r d₁ v (omega (arith, ok-short n (ask .below-10000))) (le-refl n)
 
     pub ok-report : (number : ℕ) → number ≡ numberOf answer → number ≡ 0 → (q : ℕ) (d₂ : List ℕ) → Wrote d₁ r (lines w bytes 0 n) q d₂ → Wrote d 0 (report answer n w bytes) q d₂
     ok-report number is z q d₂ u = by true q d₂ (eq-eqb (numberOf answer) 0 (sym is ∙ z)) (wrote-then v u)
@@ -67,12 +66,12 @@ module _ (d bytes : List ℕ) (answer : Answer) (n w : ℕ) (ask : ReportIn d by
     pub refused-asks : (number < 10) × (position < 10000) × (18 ≤ length d)
     refused-asks = (
       subst (λ (z : ℕ). z < 10) (sym is) (number-small answer),
-      omega (arith, ask .position, ask .few),
-      omega (arith, ask .room),
+      omega (arith, ask .position, ask .below-10000),
+      omega (arith, ask .fits),
     )
 
     module _ (r : ℕ) (d₁ : List ℕ) (v : Wrote d 0 (refusedLine number position) r d₁) where
-      pub refused-lines-ask : LinesIn d₁ r bytes w position
+      pub refused-lines-ask : LinesFit d₁ r bytes w position
       refused-lines-ask = lines-ask (refusedLine number position) position r d₁ v (refused-short number position (refused-asks .0) (refused-asks .1)) (omega (arith, ask .position))
 
       pub refused-report : (number ≡ 0 → ⊥) → (q : ℕ) (d₂ : List ℕ) → Wrote d₁ r (lines w bytes 0 position) q d₂ → Wrote d 0 (report answer n w bytes) q d₂

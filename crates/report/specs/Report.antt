@@ -1,5 +1,4 @@
--- What an answer reports, as text: a first line, then each converted element on a line.
--- Assumes nothing.
+-- To be believed: what an answer reports, as text: a first line, then each converted element on a line.
 use mathlib.Core.Bool.{cond}
 use mathlib.Core.List.{List, [], _∷_, _++_}
 use Prim.Native.Nat.{ℕ, zero, suc, _*_}

@@ -4,7 +4,7 @@ ghost use lib.ListN.{length, take, drop};
 ghost use Rattle.bytes_le.specs.Bytes.{fromLe};
 ghost use Rattle.text.specs.Wrote.{Wrote};
 ghost use Rattle.report.specs.Report.{okLine, refusedLine, line, lines, report};
-ghost use Rattle.report.specs.Room.{LineIn, LinesIn, ReportIn};
+ghost use Rattle.report.specs.Room.{LineFits, LinesFit, ReportFits};
 use kinds::Answer;
 
 // Puts the first line of a call that converts all n elements, and returns the place after it.
@@ -34,7 +34,7 @@ pub fn put_refused(out: &mut [u8], number: usize, position: usize) -> usize
 
 // Puts the line of the element of w bytes at a place of bytes, and returns the place after it.
 fn put_element(out: &mut [u8], at: usize, bytes: &[u8], from: usize, w: usize) -> usize
-    requires { ⌜ LineIn (now out) at (now bytes) from w ⌝ }
+    requires { ⌜ LineFits (now out) at (now bytes) from w ⌝ }
     ensures { λ r. ⌜ Wrote (now (out .entry)) at (line w (fromLe (take w (drop from (now (bytes .entry)))))) r (now (out .exit)) ⌝ }
 {
     let v = bytes_le::read_le(bytes, from, w);
@@ -44,7 +44,7 @@ fn put_element(out: &mut [u8], at: usize, bytes: &[u8], from: usize, w: usize) -
 
 // Puts the lines of the first k elements, and returns the place after them.
 fn put_elements(out: &mut [u8], at: usize, bytes: &[u8], w: usize, k: usize) -> usize
-    requires { ⌜ LinesIn (now out) at (now bytes) w k ⌝ }
+    requires { ⌜ LinesFit (now out) at (now bytes) w k ⌝ }
     ensures { λ r. ⌜ Wrote (now (out .entry)) at (lines w (now (bytes .entry)) 0 k) r (now (out .exit)) ⌝ }
 {
     let mut i = 0;
@@ -60,7 +60,7 @@ fn put_elements(out: &mut [u8], at: usize, bytes: &[u8], w: usize, k: usize) -> 
 
 // Puts what an answer to a call of n elements reports, with the destination's bytes, and returns the place after it.
 pub fn put_report(out: &mut [u8], bytes: &[u8], answer: Answer, n: usize, w: usize) -> usize
-    requires { ⌜ ReportIn (now out) (now bytes) answer n w ⌝ }
+    requires { ⌜ ReportFits (now out) (now bytes) answer n w ⌝ }
     ensures { λ r. ⌜ Wrote (now (out .entry)) 0 (report answer n w (now (bytes .entry))) r (now (out .exit)) ⌝ }
 {
     let number = kinds::number(answer) as usize;

@@ -1,7 +1,3 @@
-pub mod Biased
-pub mod Carried
-pub mod WholeBits
-pub mod Patterns
+pub mod Increments
 pub mod Units
-pub mod Narrow
-pub mod WholePart
+pub mod WholeNumbers

@@ -1,5 +1,4 @@
 -- A mask of all ones or of none takes a difference whole or not at all, so that a wrapped sum with it is one of two numbers.
--- Assumes nothing.
 use mathlib.Core.Path.{_≡_, ap, _∙_}
 use mathlib.Core.Bool.{Bool, true, false, not, cond}
 use Prim.Native.Nat.{ℕ, _+_, _-_, _%_, _^_, _≤_, _<_, min}

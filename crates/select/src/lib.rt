@@ -3,18 +3,18 @@ ghost use mathlib.Core.Path.{_≡_};
 ghost use mathlib.Core.Bool.{cond};
 ghost use Prim.Native.Nat.{min};
 
-// The second number where the condition holds, and else the first.
-pub fn choose(second: bool, a: u64, b: u64) -> u64
-    ensures { λ r. ⌜ r ≡ cond second b a ⌝ }
+// The one number where the condition holds, and else the other.
+pub fn choose(condition: bool, then: u64, otherwise: u64) -> u64
+    ensures { λ r. ⌜ r ≡ cond condition then otherwise ⌝ }
 {
-    let mask = std::num::wrapping_sub_u64(0, second as u64);
-    let more = std::num::wrapping_sub_u64(b, a);
-    std::num::wrapping_add_u64(a, more & mask)
+    let mask = std::num::wrapping_sub_u64(0, condition as u64);
+    let more = std::num::wrapping_sub_u64(then, otherwise);
+    std::num::wrapping_add_u64(otherwise, more & mask)
 }
 
 // The lesser of two numbers.
 pub fn least(a: u64, b: u64) -> u64
     ensures { λ r. ⌜ r ≡ min a b ⌝ }
 {
-    choose(b < a, a, b)
+    choose(b < a, b, a)
 }

@@ -1,5 +1,4 @@
 -- Digits from the lowest on, and the fewest that hold a number.
--- Assumes nothing.
 use mathlib.Core.Path.{_≡_, refl, sym, ap, ap₂, subst, _∙_}
 use mathlib.Core.Bool.{Bool, true, false, cond}
 use mathlib.Core.List.{List, _∷_, _++_}
@@ -106,15 +105,15 @@ decimal-by d a v k r d′ e w = subst (λ (z : ℕ). Wrote d a (digits 10 z v) r
 
 -- ---- the definition's places are the fewest that hold a number
 pub record Fewest (v k : ℕ) : Type 0 where
-  pub held : v < 10 ^ k
+  pub fits : v < 10 ^ k
   pub fewest : (j : ℕ) → k ≡ suc (suc j) → 10 ^ suc j ≤ v
 
 up-to-fewest : (n v : ℕ) → v < 10 ^ suc n → Fewest v (placesUpTo n v)
-up-to-fewest zero v h = record { held = h; fewest = λ j e. absurd (omega arith) }
+up-to-fewest zero v h = record { fits = h; fewest = λ j e. absurd (omega arith) }
 up-to-fewest (suc n) v h = either (leb (10 ^ suc n) v) (leb-true (10 ^ suc n) v) (λ e. up-to-fewest n v (leb-false (10 ^ suc n) v e))
   where
     either : (t : Bool) → (t ≡ true → 10 ^ suc n ≤ v) → (t ≡ false → Fewest v (placesUpTo n v)) → Fewest v (cond t (suc (suc n)) (placesUpTo n v))
-    either true low f = record { held = h; fewest = λ j e. subst (λ (z : ℕ). 10 ^ suc z ≤ v) (less n j e) (low refl) }
+    either true low f = record { fits = h; fewest = λ j e. subst (λ (z : ℕ). 10 ^ suc z ≤ v) (less n j e) (low refl) }
       where
         less : (n j : ℕ) → suc (suc n) ≡ suc (suc j) → n ≡ j
         less n j e = omega arith

@@ -1,4 +1,4 @@
--- Numbers as text, in ASCII. Assumes nothing.
+-- To be believed: numbers as text, in ASCII.
 use mathlib.Core.Bool.{cond}
 use mathlib.Core.List.{List, [], _∷_}
 use Prim.Native.Nat.{ℕ, zero, suc, _+_, _/_, _%_, _^_}

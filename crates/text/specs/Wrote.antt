@@ -1,5 +1,4 @@
--- What is written at a place of a lent buffer, all else kept.
--- Assumes nothing.
+-- To be believed: what is written at a place of a lent buffer, all else kept.
 use mathlib.Core.Path.{_≡_}
 use mathlib.Core.List.{List, _++_}
 use Prim.Native.Nat.{ℕ, _+_, _≤_}

@@ -1,7 +1,6 @@
--- A typed entry as one function over the types of its source, its destination and its entries meets its contract: a walk of its MIR, by hand. The function is the loop alone.
+-- A typed call as one function over the types of its source, its destination and its entries meets its contract: a walk of its MIR, by hand. The function is the loop alone.
 -- Each turn calls the lookup on the entries and the state's pattern, and the step on the two slices, the state and what was found. What source and entries own is had twice before a call;
 -- the destination is lent again for a lifetime that is made for the call, and comes back (`Again.antt`). What a turn keeps is `Inv` of `Turns.antt`.
--- Assumes nothing.
 use mathlib.Core.Bool.{Bool, true, false}
 use mathlib.Core.Path.{_≡_, refl, sym, ap, subst}
 use mathlib.Core.List.{List, [], _∷_, map}
@@ -57,7 +56,7 @@ use Rattle.typed.proofs.State.Laws as S′
 use Rattle.typed.proofs.State as S
 use Rattle.typed.specs.declared.State.{State}
 use Rattle.typed.specs.Typed.{TypedContract}
-use Rattle.typed.proofs.Again.{LentAgain, lends-again, comes-back}
+use Rattle.walks.proofs.Again.{LentAgain, lends-again, comes-back}
 use Rattle.typed.proofs.Turns.{Elements, Inv, left, starts, asks, turns}
 use Rattle.typed.specs.Loop.{startOf, outcomeFor, nextState, storedIn}
 
@@ -126,20 +125,19 @@ module _ (P : Pair) where
   lookup-clauses 𝓤 κs a = record { ghost = Unit {0}; requires = λ g. fact 𝓤 (a .1 .0 < 2 ^ bits k); ensures = λ g r end. fact 𝓤 (r ≡ lookupOf k (valueOf k (a .1 .0)) (map (N .entry-bits) (now (a .0)))) }
 
   abbrev step-ended : Ended
-  step-ended = record { signature = record { lifetimes = 2; outlives = []; params = SliceRefOf (0 ∷ []) tt (plain (λ κs. R₁)) (λ κs. P .source-one) ∷ SliceRefMutOf (1 ∷ []) tt (plain (λ κs. R₂)) (λ κs. P .target-one) ∷ plain (λ κs. S.the-row) ∷ plain (λ κs. F.the-row) ∷ plain (λ κs. u8) ∷ plain (λ κs. u8) ∷ []; result = plain (λ κs. S.the-row) }; kept = (yes, (yes, (yes, (yes, (yes, (yes, tt)))))) }
+  step-ended = record { signature = record { lifetimes = 2; outlives = []; params = SliceRefOf (0 ∷ []) tt (plain (λ κs. R₁)) (λ κs. P .source-one) ∷ SliceRefMutOf (1 ∷ []) tt (plain (λ κs. R₂)) (λ κs. P .target-one) ∷ plain (λ κs. S.the-row) ∷ plain (λ κs. F.the-row) ∷ []; result = plain (λ κs. S.the-row) }; kept = (yes, (yes, (yes, (yes, tt)))) }
 
   abbrev Asked : List D₁ → List D₂ → State → Type 0
   Asked xs zs s = (s .x < 2 ^ bits k) × (s .at < length xs) × (s .at < length zs)
 
-  abbrev Said : List D₁ → List D₂ → State → Lookup → ℕ → ℕ → State → List D₂ → Type 0
-  Said xs zs s f rounding range r ws = (r ≡ nextState (outcomeFor (N .from) (N .to) (s .x) f rounding range) (map (N .source-bits) xs) (s .at))
-      × (ws ≡ storedIn (N .target-of) (outcomeFor (N .from) (N .to) (s .x) f rounding range) zs (s .at))
+  abbrev Said : List D₁ → List D₂ → State → Lookup → State → List D₂ → Type 0
+  Said xs zs s f r ws = (r ≡ nextState (outcomeFor (N .from) (N .to) s f) (map (N .source-bits) xs) s) × (ws ≡ storedIn (N .target-of) (outcomeFor (N .from) (N .to) s f) zs (s .at))
 
   abbrev step-clauses : {M : Type 1} (𝓤 : URA M) → Clauses 𝓤 step-ended
   step-clauses 𝓤 κs a = record {
     ghost = Unit {0};
     requires = λ g. fact 𝓤 (Asked (now (a .0)) (now (a .1 .0)) (a .1 .1 .0));
-    ensures = λ g r end. fact 𝓤 (Said (now (a .0)) (now (a .1 .0)) (a .1 .1 .0) (a .1 .1 .1 .0) (a .1 .1 .1 .1 .0) (a .1 .1 .1 .1 .1 .0) r (now (end .1 .0)));
+    ensures = λ g r end. fact 𝓤 (Said (now (a .0)) (now (a .1 .0)) (a .1 .1 .0) (a .1 .1 .1 .0) r (now (end .1 .0)));
   }
 
   abbrev answer-ended : Ended
@@ -191,7 +189,7 @@ module _ (P : Pair) where
     abbrev begins : (r : State) → r ≡ startOf (map (N .source-bits) xs) (length ds) rounding range → Ok r → Upto
     begins r e ok = record { s = r; zs = ds; inv = subst (λ (z : State). Inv N xs ys rounding range ds z ds) (sym e) (starts N xs ys rounding range ds); ok = ok }
 
-    module _ (i : Upto) (m : i .s .more ≡ true) (f : Lookup) (ef : f ≡ lookupOf k (valueOf k (i .s .x)) (map (N .entry-bits) ys)) (r : State) (ws : List D₂) (said : Said xs (i .zs) (i .s) f rounding range r ws) where
+    module _ (i : Upto) (m : i .s .more ≡ true) (f : Lookup) (ef : f ≡ lookupOf k (valueOf k (i .s .x)) (map (N .entry-bits) ys)) (r : State) (ws : List D₂) (said : Said xs (i .zs) (i .s) f r ws) where
       done-turn : Inv N xs ys rounding range ds r ws × (left N xs ys rounding range ds r < left N xs ys rounding range ds (i .s))
       done-turn = turns N xs ys rounding range ds (i .s) (i .zs) (i .inv) m f ef r ws said
 
@@ -232,7 +230,7 @@ module _ (P : Pair) where
         (seq (call lookup-name (copy (place 3 []) ∷ copy (place 6 (field 2 ∷ [])) ∷ []) (place 7 []))
         (seq (assign (place 10 []) (addrOf (place 2 (field 0 ∷ deref (lone (R₂ .mir)) ∷ []))))
         (seq (assign (place 11 []) (aggregate (copy (place 10 []) ∷ copy (place 2 (field 1 ∷ [])) ∷ [])))
-        (call step-name (copy (place 1 []) ∷ copy (place 11 []) ∷ copy (place 6 []) ∷ copy (place 7 []) ∷ copy (place 4 []) ∷ copy (place 5 []) ∷ []) (place 6 []))))))
+        (call step-name (copy (place 1 []) ∷ copy (place 11 []) ∷ copy (place 6 []) ∷ copy (place 7 []) ∷ []) (place 6 []))))))
 
     abbrev rest : Body
     rest = seq (call answer-name (copy (place 6 []) ∷ []) (place 0 [])) return
@@ -323,7 +321,7 @@ module _ (P : Pair) where
 
       -- the destination is lent for the lifetime ν, under the name δ. What was found is passed at its machine value w
       abbrev to-step : ℕ → GName → Turn → Lookup → Val → Step 𝓤 H A .Ghost
-      to-step ν δ i f w = (((κ₀, (ν ∷ [], tt)), (q₀, (fullShare, tt)), tt, (a₁, (d δ (i .zs), (i .s, (f, (rounding, (range, tt)))))), (v₁ ∷ [], (v₂ (length (i .zs)) ∷ [], (low (i .s) ∷ [], (w ∷ [], (vint w8 rounding ∷ [], (vint w8 range ∷ [], tt))))))), tt)
+      to-step ν δ i f w = (((κ₀, (ν ∷ [], tt)), (q₀, (fullShare, tt)), tt, (a₁, (d δ (i .zs), (i .s, (f, tt)))), (v₁ ∷ [], (v₂ (length (i .zs)) ∷ [], (low (i .s) ∷ [], (w ∷ [], tt))))), tt)
 
       abbrev Lent : ℕ → GName → List D₂ → Fml
       Lent ν δ zs = MutSlice (named 1) (ν ∷ []) R₂ .own (d δ zs) (v₂ (length zs) ∷ [])
@@ -333,12 +331,12 @@ module _ (P : Pair) where
       goes-step ν δ i f w asked is =
           qed W ((‵ (flft κ₀ q₀) ⊛ ‵ (flft (ν ∷ []) fullShare)) ∷ ‵ Own₁ ∷ ‵ (Lent ν δ (i .zs)) ∷ []) ∵ split ! $ move ! (2 ∷ []) $ use1 W (‵ Own₁ ⊛ ‵ Own₁) (shr-slice-copy 𝓤 H A W (named 0) κ₀ R₁ .twice a₁ (v₁ ∷ [])) $ split ! $
           -- [what the source owns, twice; its token; the new token; the lent slice]
-          nothing ! $ owned ! u8 (Is u8) (uint-makes 𝓤 H A W w8) range _ (refl, fits₅) $ fjoin ! $ owned ! u8 (Is u8) (uint-makes 𝓤 H A W w8) rounding _ (refl, fits₄) $ fjoin ! $ owned ! F.the-row (Is F.the-row) (EL.makes F.the-type F′.the-plain 𝓤 H A) f (w ∷ []) is $ fjoin ! $ owned ! S.the-row (Is S.the-row) (LL.makes S.the-type S′.the-plain 𝓤 H A) (i .s) (low (i .s) ∷ []) (i .ok) $ fjoin ! $
+          nothing ! $ owned ! F.the-row (Is F.the-row) (EL.makes F.the-type F′.the-plain 𝓤 H A) f (w ∷ []) is $ fjoin ! $ owned ! S.the-row (Is S.the-row) (LL.makes S.the-type S′.the-plain 𝓤 H A) (i .s) (low (i .s) ∷ []) (i .ok) $ fjoin ! $
           move ! (5 ∷ 0 ∷ []) $ fjoin ! $ move ! (1 ∷ 0 ∷ []) $ fjoin ! $
           -- [what the parameters own; what the source owns; its token; the new token]
           nothing ! $ move ! (4 ∷ 0 ∷ []) $ join ! $ move ! (3 ∷ 0 ∷ []) $ join ! $
           use2 W (raw (Step 𝓤 H A .pre (to-step ν δ i f w))) (qed W ((‵ (flft κ₀ q₀) ⊛ (‵ (flft (ν ∷ []) fullShare) ⊛ ‵ ftrue))
-          ∷ ‵ (owns (ShrSlice (named 0) κ₀ R₁ ∷ MutSlice (named 1) (ν ∷ []) R₂ ∷ S.the-row ∷ F.the-row ∷ u8 ∷ u8 ∷ []) (a₁, (d δ (i .zs), (i .s, (f, (rounding, (range, tt)))))) (v₁ ∷ [], (v₂ (length (i .zs)) ∷ [], (low (i .s) ∷ [], (w ∷ [], (vint w8 rounding ∷ [], (vint w8 range ∷ [], tt))))))) ∷ []) ∵ says ! asked $ frame ! $ done !) $ frame ! $ done !
+          ∷ ‵ (owns (ShrSlice (named 0) κ₀ R₁ ∷ MutSlice (named 1) (ν ∷ []) R₂ ∷ S.the-row ∷ F.the-row ∷ []) (a₁, (d δ (i .zs), (i .s, (f, tt)))) (v₁ ∷ [], (v₂ (length (i .zs)) ∷ [], (low (i .s) ∷ [], (w ∷ [], tt))))) ∷ []) ∵ says ! asked $ frame ! $ done !) $ frame ! $ done !
 
       abbrev to-answer : State → AnswerOf 𝓤 H A .Ghost
       to-answer s = ((tt, tt, tt, (s, tt), (low s ∷ [], tt)), tt)
@@ -400,11 +398,11 @@ module _ (P : Pair) where
             move ! (5 ∷ 2 ∷ 6 ∷ 0 ∷ []) $ join ! $ use3 W (raw (Step 𝓤 H A .pre (to-step ν δ i f w)) ⊛ ‵ Own₁) (goes-step ν δ i f w (asked i m) isf) $ split ! $
             -- [what the step asks; what the source owns; what waits; the entries' token; what the entries own; the locals at 5]
             calls-at-last ! fm (Step 𝓤 H A) known-step (to-step ν δ i f w)
-            (and-then ! (load ! (from ! (stop !)) (look ! 25 refl)) (and-then ! (load ! (from ! (stop !)) (look ! 5 refl)) (and-then ! (load ! (from ! (stop !)) (look ! 15 refl)) (and-then ! (load ! (from ! (stop !)) (look ! 13 refl)) (and-then ! (load ! (from ! (stop !)) (look ! 19 refl)) (and-then ! (load ! (from ! (stop !)) (look ! 17 refl)) (no-more !))))))) (λ u.
+            (and-then ! (load ! (from ! (stop !)) (look ! 25 refl)) (and-then ! (load ! (from ! (stop !)) (look ! 5 refl)) (and-then ! (load ! (from ! (stop !)) (look ! 15 refl)) (and-then ! (load ! (from ! (stop !)) (look ! 13 refl)) (no-more !))))) (λ u.
             use1 W (later (some (λ (r : State). ((‵ (flft κ₀ q₀) ⊛ (‵ (flft (ν ∷ []) fullShare) ⊛ ‵ ftrue)) ⊛ ‵ (S.the-row .own r (u ∷ [])))
-            ⊛ raw (ensured 𝓤 H A step-ended (step-clauses 𝓤) (κ₀, (ν ∷ [], tt)) (a₁, (d δ (i .zs), (i .s, (f, (rounding, (range, tt)))))) tt r)))) (id⊢ 𝓤 _) $ await ! tt $ pick ! (λ r.
-            split ! $ move ! (1 ∷ []) $ use1 W (some (λ (ws : Unit {0} × (List D₂ × (Unit {0} × (Unit {0} × (Unit {0} × (Unit {0} × Unit {0})))))). ‵ (lasts step-ended (κ₀, (ν ∷ [], tt)) (a₁, (d δ (i .zs), (i .s, (f, (rounding, (range, tt)))))) ws) ⊛ raw (fact 𝓤 (Said xs (i .zs) (i .s) f rounding range r (ws .1 .0))))) (id⊢ 𝓤 _) $ pick ! (λ ws.
-            split ! $ move ! (1 ∷ []) $ heard ! (Said xs (i .zs) (i .s) f rounding range r (ws .1 .0)) (λ e. fsplit ! $ leave ! $ fsplit ! $ fsplit ! $ move ! (1 ∷ []) $ feqL ! (λ l.
+            ⊛ raw (ensured 𝓤 H A step-ended (step-clauses 𝓤) (κ₀, (ν ∷ [], tt)) (a₁, (d δ (i .zs), (i .s, (f, tt)))) tt r)))) (id⊢ 𝓤 _) $ await ! tt $ pick ! (λ r.
+            split ! $ move ! (1 ∷ []) $ use1 W (some (λ (ws : Unit {0} × (List D₂ × (Unit {0} × (Unit {0} × Unit {0})))). ‵ (lasts step-ended (κ₀, (ν ∷ [], tt)) (a₁, (d δ (i .zs), (i .s, (f, tt)))) ws) ⊛ raw (fact 𝓤 (Said xs (i .zs) (i .s) f r (ws .1 .0))))) (id⊢ 𝓤 _) $ pick ! (λ ws.
+            split ! $ move ! (1 ∷ []) $ heard ! (Said xs (i .zs) (i .s) f r (ws .1 .0)) (λ e. fsplit ! $ leave ! $ fsplit ! $ fsplit ! $ move ! (1 ∷ []) $ feqL ! (λ l.
             -- [the destination's last list; true; the tokens and the result; what the source owns; what waits; the entries' token; what the entries own; the locals at 7]
             move ! (2 ∷ []) $ split ! $ move ! (1 ∷ []) $ facts ! S.the-row (Is S.the-row) (shows 𝓤 H A S.the-row) r (u ∷ []) (λ is.
             split ! $ move ! (1 ∷ []) $ split ! $ lft-end ! tt $
@@ -479,6 +477,6 @@ module _ (P : Pair) where
           (λ κs qs bounds a g are. via 𝓤 _ (fst∗ 𝓤 _ (emp 𝓤)) (walk 𝓤 H A W (κs .0) (κs .1 .0) (κs .1 .1 .0) (qs .0) (qs .1 .0) (qs .1 .1 .0) (a .0) (a .1 .0 .ptr .0) (a .1 .0 .ptr .1) (a .1 .0 .name) (a .1 .0 .now) (a .1 .1 .0) (a .1 .1 .1 .0) (a .1 .1 .1 .1 .0)
           (are .1 .1 .1 .0 .1) (are .1 .1 .1 .1 .0 .1) 𝓣 (fmOf 𝓤 H (W .laws) 𝓣) known-start known-lookup known-step known-answer (are .0) (are .1 .0) (are .1 .1 .0)))
 
-      pub meets : Meets 𝓤 H A (ended .signature) (WpFn 𝓤 H (𝓣 .C) (𝓣 .Λ) function) (closing 𝓤 H A ended (clauses 𝓤))
-      meets = walk-meets 𝓤 H A ended stayed W (goes-none-slice 𝓤 H A W 3 (0 ∷ []) tt (plain (λ _. R₁)) yes, (goes-slice 𝓤 H A W 3 1 tt (plain (λ _. R₂)), (goes-none-slice 𝓤 H A W 3 (2 ∷ []) tt (plain (λ _. R₃)) yes, (goes-none 𝓤 H A W 3 (λ _. u8) yes (λ κs y f. refl), (goes-none 𝓤 H A W 3 (λ _. u8) yes (λ κs y f. refl), tt)))))
+      pub typed-call-meets-contract : Meets 𝓤 H A (ended .signature) (WpFn 𝓤 H (𝓣 .C) (𝓣 .Λ) function) (closing 𝓤 H A ended (clauses 𝓤))
+      typed-call-meets-contract = walk-meets 𝓤 H A ended stayed W (goes-none-slice 𝓤 H A W 3 (0 ∷ []) tt (plain (λ _. R₁)) yes, (goes-slice 𝓤 H A W 3 1 tt (plain (λ _. R₂)), (goes-none-slice 𝓤 H A W 3 (2 ∷ []) tt (plain (λ _. R₃)) yes, (goes-none 𝓤 H A W 3 (λ _. u8) yes (λ κs y f. refl), (goes-none 𝓤 H A W 3 (λ _. u8) yes (λ κs y f. refl), tt)))))
           (clauses 𝓤) (WpFn 𝓤 H (𝓣 .C) (𝓣 .Λ) function) (WpFn-mono 𝓤 H (W .laws) 𝓣 function) walks

@@ -1,10 +1,10 @@
-pub mod Again
 pub mod Conversions
-pub mod LendArray
+pub mod Formats
 pub mod Pairs
-pub mod Parts
 pub mod Places
 pub mod RefusedNan
+pub mod States
+pub mod Steps
 pub mod Stored
 pub mod Threes
 pub mod Turns

@@ -1,5 +1,4 @@
 -- The five pairs of kinds, each by its types and its patterns.
--- Assumes nothing.
 use mathlib.Core.Bool.{true}
 use mathlib.Core.Path.{_≡_, refl, ap, subst, sym, _∙_}
 use mathlib.Core.List.{List, [], _∷_, map}

@@ -1,5 +1,4 @@
 -- Patterns as bytes, `bytesOf`: the pattern at a place is the one that was written there, and another at its place changes no other byte.
--- Assumes nothing.
 use mathlib.Core.List.{List, [], _∷_, _++_, append-assoc, map}
 use mathlib.Core.Path.{_≡_, refl, sym, ap, ap₂, subst, _∙_}
 use Prim.Native.Nat.{ℕ, zero, suc, _+_, _*_, _/_, _%_, _^_, _≤_, _<_}
@@ -13,7 +12,7 @@ use Rattle.bytes_le.proofs.Sums.{length-toLe}
 use Rattle.bytes_le.proofs.Places.{first-place, next-place}
 use Rattle.cast_spec.specs.Element.{Entry}
 use Rattle.cast_spec.specs.Chunk.{entriesFrom}
-use Rattle.typed.proofs.Parts.{mapped-at}
+use Rattle.typed.proofs.States.{mapped-at}
 use Rattle.typed.specs.Typed.{bytesOf}
 
 pub map-set : {X : Type 0} (f : X → ℕ) (xs : List X) (i : ℕ) (y : X) → map f (set xs i y) ≡ set (map f xs) i (f y)

@@ -1,5 +1,4 @@
--- The value of a refusal that concerns a NaN is the settled one, `refusedNan`, in every typed entry.
--- Assumes nothing.
+-- The value of a refusal that concerns a NaN is the settled one, `refusedNan`, in every typed call.
 use mathlib.Core.Bool.{Bool, true, false, cond}
 use mathlib.Core.Path.{_≡_, refl, sym, ap, subst, _∙_}
 use mathlib.Core.Logic.{_⊎_, inl, inr}
@@ -102,7 +101,7 @@ unfolding nanPattern toBits
 quiet-value binary32 = refl
 quiet-value binary64 = refl
 
--- ---- a typed entry, by its elements
+-- ---- a typed call, by its elements
 abbrev Settled : {X Y Z : Type 0} → Elements X Y Z → X → Type 0
 Settled P x = valueOf (kindOf (P .from)) (P .source-bits x) ≡ nan → nanPattern (kindOf (P .from)) 53 11 (P .source-bits x) ≡ refusedNan
 

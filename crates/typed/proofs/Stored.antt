@@ -1,5 +1,4 @@
 -- A pattern that a conversion to f32 stores is no NaN's but the quiet one, where the elements' and the targets' patterns are so: it is the one that the f32 read from it has.
--- Assumes nothing.
 use mathlib.Core.Bool.{Bool, true, false, cond, _&&_}
 use mathlib.Core.Path.{_≡_, refl, sym, ap, subst, _∙_}
 use mathlib.Core.List.{List, [], _∷_, map}

@@ -1,6 +1,5 @@
--- A typed entry with three entries by value, as one function over a pair's types, meets its contract: a walk of its MIR, by hand. The array is copied to a slot in memory, which is lent as a
+-- A typed call with three entries by value, as one function over a pair's types, meets its contract: a walk of its MIR, by hand. The array is copied to a slot in memory, which is lent as a
 -- slice for a lifetime that is made for the call, and comes back. The destination is given to the callee for good, under its own lifetime and name.
--- Assumes nothing.
 use mathlib.Core.List.{List, [], _∷_}
 use mathlib.Core.Path.{_≡_, refl, sym, ap, subst}
 use Prim.Native.Nat.{ℕ, _*_, _<_, _^_}
@@ -47,7 +46,7 @@ use denote.Laws.{Is, Makes, shows}
 use Rattle.kinds.specs.declared.Answer.{Answer}
 use Rattle.kinds.proofs.Answer as R
 use Rattle.kinds.proofs.Answer.Laws as R′
-use Rattle.typed.proofs.LendArray.{into-parts, back-room}
+use Rattle.walks.proofs.LendArray.{into-parts, back-room}
 use Rattle.typed.proofs.Conversions.{Pair, ended, clauses, Converts}
 
 module _ (P : Pair) (convert-name : Name) (small : Holds (ltb (3 * size (lone (row (P .entry .type) .mir))) (2 ^ 63))) where
@@ -134,9 +133,6 @@ module _ (P : Pair) (convert-name : Name) (small : Holds (ltb (3 * size (lone (r
     abbrev Own₁ : Fml
     Own₁ = ShrSlice (named 0) κ₀ R₁ .own a₁ (v₁ ∷ [])
 
-    abbrev Own₂ : Fml
-    Own₂ = MutSlice (named 1) κ₁ R₂ .own a₂ (v₂ ∷ [])
-
     mk : Makes 𝓤 H A R₃ (Is R₃)
     mk = LL.makes (P .entry .type) (P .entry .plain-fields) 𝓤 H A
 
@@ -220,8 +216,8 @@ module _ (P : Pair) (convert-name : Name) (small : Holds (ltb (3 * size (lone (r
         (λ κs qs bounds a g are. via 𝓤 _ (fst∗ 𝓤 _ (emp 𝓤)) (walk 𝓤 H A W (κs .0) (κs .1 .0) (qs .0) (qs .1 .0) (a .0) (a .1 .0) (a .1 .1 .0) (a .1 .1 .1 .0) (a .1 .1 .1 .1 .0) _ (are .0) (are .1 .0) (are .1 .1 .0) (are .1 .1 .1 .0 .1) (are .1 .1 .1 .1 .0 .1)
         (𝓣 .C) (𝓣 .Λ) (fmOf 𝓤 H (W .laws) 𝓣) known))
 
-    pub meets : Meets 𝓤 H A (ended′ .signature) (WpFn 𝓤 H (𝓣 .C) (𝓣 .Λ) function) (closing 𝓤 H A ended′ (clauses′ 𝓤))
-    meets = walk-meets 𝓤 H A ended′ stayed W (
+    pub three-entries-meet-contract : Meets 𝓤 H A (ended′ .signature) (WpFn 𝓤 H (𝓣 .C) (𝓣 .Λ) function) (closing 𝓤 H A ended′ (clauses′ 𝓤))
+    three-entries-meet-contract = walk-meets 𝓤 H A ended′ stayed W (
       goes-none-slice 𝓤 H A W 2 (0 ∷ []) tt (plain (λ _. R₁)) yes,
       (
         goes-gave-slice 𝓤 H A W 2 1 tt (plain (λ _. R₂)),

@@ -1,5 +1,4 @@
--- The loop of a typed entry keeps the definitions' account of the rest, and ends with the chunk call's contract. For any two kinds, any entries and any type of the destination's elements.
--- Assumes nothing.
+-- The loop of a typed call keeps the definitions' account of the rest, and ends with the chunk call's contract. For any two kinds, any entries and any type of the destination's elements.
 use mathlib.Core.List.{List, _++_, map}
 use mathlib.Core.Bool.{Bool, true, false, cond, _&&_, true≢false}
 use mathlib.Core.Path.{_≡_, refl, sym, ap, ap₂, subst, _∙_}
@@ -11,9 +10,11 @@ use lib.ListN.{length, getD, take, drop, set, length-set, length-map}
 use lib.Dec.{T, ltb, eqb}
 use borrow.Author.Tests.{lt-ltb, eq-eqb, ltb-true, ltb-false, eqb-true, eqb-false}
 use Rattle.bytes_le.specs.Bytes.{toLe}
-use Rattle.patterns.specs.Kind.{bits}
+use Rattle.grid.specs.declared.RoundingMode.{RoundingMode}
+use Rattle.patterns.specs.Kind.{bits, width}
 use Rattle.patterns.specs.Value.{valueOf}
 use Rattle.kinds.specs.declared.Answer.{Answer}
+use Rattle.kinds.specs.declared.OutOfRangeMode.{OutOfRangeMode}
 use Rattle.kinds.specs.declared.Lookup.{Lookup}
 use Rattle.kinds.specs.declared.Outcome.{Outcome}
 use Rattle.kinds.specs.declared.Outcome.the-variants.{Stored, NanOrInf, OutOfRange, FloatOutOfRange}
@@ -21,11 +22,13 @@ use Rattle.kinds.specs.Codes.{kindOf, roundingOf, rangeOf}
 use Rattle.kinds.specs.declared.Answer.the-variants as A
 use Rattle.cast_spec.specs.Demand3.{Contract}
 use Rattle.cast_spec.proofs.Steps.{no-map}
-use Rattle.cast_spec.proofs.Demand3.{contract, kind-fits, answer-is, destination-is}
+use Rattle.cast_spec.proofs.Demand3.{contract, answer-is, destination-is}
+use Rattle.cast_spec.proofs.Widths.{kind-fits, width-pos}
+use Rattle.cast_spec.proofs.Refusals.{unknown, mismatch}
+use Rattle.cast_spec.proofs.Runs.{Run, done, refused, kept}
 use Rattle.cast_spec.specs.Element.{Entry, Settings, lookupOf, foundOr, outcomeOf}
-use Rattle.cast_spec.specs.Chunk.{Inputs, width, settingsOf, codesListed, mapWhole, bytesWhole, callOf, outcomeAt, answerNext, answerFrom, answerOf, bytesFrom, destinationOf, entriesFrom, Refuses}
-use Rattle.chunk.proofs.Runs.{Run, done, refused, kept}
-use Rattle.chunk.proofs.Exits.{width-pos, unknown, mismatch}
+use Rattle.element.specs.Convert.{unmapped}
+use Rattle.cast_spec.specs.Chunk.{Inputs, settingsOf, codesListed, mapWhole, bytesWhole, callOf, outcomeAt, answerNext, answerFrom, answerOf, bytesFrom, destinationOf, entriesFrom, Refuses}
 use Rattle.typed.specs.Loop.{going, stopped, stateAt, startOf, outcomeFor, nextState, storedIn}
 use Rattle.typed.specs.Typed.{bytesOf, typedInputs}
 use Rattle.typed.specs.declared.State.{State}
@@ -77,10 +80,23 @@ module _ {X Y Z : Type 0} (P : Elements X Y Z) (xs : List X) (ys : List Z) (roun
   fits : (i : ℕ) → i < length ps → getD ps i 0 < 2 ^ bits (kindOf from)
   fits = mapped-below (P .source-bits) (2 ^ bits (kindOf from)) (P .source-fits) xs
 
+  -- what the call's codes say, and a state that has it
+  abbrev rule : RoundingMode
+  rule = roundingOf rounding
+
+  abbrev choice : OutOfRangeMode
+  choice = rangeOf range
+
+  pub record Decoded (s : State) : Type 0 where
+    pub rule-is : s .rounding ≡ rule
+    pub choice-is : s .range ≡ choice
+
   -- what the program has of an element is what its steps come to
-  pub outcome-is : (x : ℕ) (f : Lookup) → f ≡ lookupOf (kindOf from) (valueOf (kindOf from) x) es → outcomeFor from to x f rounding range ≡ outcomeOf S x
+  pub outcome-is : (s : State) (f : Lookup) → Decoded s → f ≡ lookupOf (kindOf from) (valueOf (kindOf from) (s .x)) es → outcomeFor from to s f ≡ outcomeOf S (s .x)
   unfolding outcomeOf
-  outcome-is x f e = ap₂ foundOr e (no-map (kindOf from) (kindOf to) (roundingOf rounding) (rangeOf range) es x (kindOf to) (valueOf (kindOf from) x))
+  outcome-is s f d e =
+      ap₂ (λ (u : RoundingMode) (g : OutOfRangeMode). foundOr f (unmapped (kindOf from) (kindOf to) u g (s .x))) (d .rule-is) (d .choice-is)
+      ∙ ap₂ foundOr e (no-map (kindOf from) (kindOf to) rule choice es (s .x) (kindOf to) (valueOf (kindOf from) (s .x)))
 
   abbrev v : ℕ
   v = width (kindOf from)
@@ -167,6 +183,7 @@ module _ {X Y Z : Type 0} (P : Elements X Y Z) (xs : List X) (ys : List Z) (roun
     pub record On (s : State) (zs : List Y) : Type 0 where
       pub below : s .at < length ps
       pub meet : length ps ≡ length ds
+      pub decoded : Decoded s
       pub x-is : s .x ≡ getD ps (s .at) 0
       pub run : Run o w (length ps) R W (s .at) (bytes zs)
 
@@ -180,33 +197,33 @@ module _ {X Y Z : Type 0} (P : Elements X Y Z) (xs : List X) (ys : List Z) (roun
     abbrev pub left : State → ℕ
     left s = cond (s .more) (suc (length ps - s .at)) 0
 
-    over : (i : ℕ) (a : Answer) (zs : List Y) → length zs ≡ length ds → Contract In a (bytes zs) → Inv (stopped i a) zs
-    over i a zs long c = record { long = long; on = λ h. absurd (true≢false (sym h)); off = λ _. c }
+    over : (s : State) (i : ℕ) (a : Answer) (zs : List Y) → length zs ≡ length ds → Contract In a (bytes zs) → Inv (stopped (s .rounding) (s .range) i a) zs
+    over s i a zs long c = record { long = long; on = λ h. absurd (true≢false (sym h)); off = λ _. c }
 
-    at-position : (i : ℕ) (zs : List Y) → i ≤ length ps → length ps ≡ length ds → length zs ≡ length ds → Run o w (length ps) R W i (bytes zs) → Inv (stateAt ps i) zs
-    at-position i zs h meet long run = go (ltb i (length ps)) refl
+    at-position : (s : State) → Decoded s → (i : ℕ) (zs : List Y) → i ≤ length ps → length ps ≡ length ds → length zs ≡ length ds → Run o w (length ps) R W i (bytes zs) → Inv (stateAt (s .rounding) (s .range) ps i) zs
+    at-position s d i zs h meet long run = go (ltb i (length ps)) refl
       where
-        go : (t : Bool) → ltb i (length ps) ≡ t → Inv (cond t (going i (getD ps i 0)) (stopped i A.Converted)) zs
-        go true e = record { long = long; on = λ _. record { below = ltb-true i (length ps) e; meet = meet; x-is = refl; run = run }; off = λ f. absurd (true≢false f) }
+        go : (t : Bool) → ltb i (length ps) ≡ t → Inv (cond t (going (s .rounding) (s .range) i (getD ps i 0)) (stopped (s .rounding) (s .range) i A.Converted)) zs
+        go true e = record { long = long; on = λ _. record { below = ltb-true i (length ps) e; meet = meet; decoded = record { rule-is = d .rule-is; choice-is = d .choice-is }; x-is = refl; run = run }; off = λ f. absurd (true≢false f) }
         go false e =
             let l : i ≡ length ps = omega (arith, ltb-false i (length ps) e) in
-            let d = done o w (length ps) R W i (bytes zs) run l in over i A.Converted zs long (contract In A.Converted (bytes zs) (d .0) (d .1))
+            let d = done o w (length ps) R W i (bytes zs) run l in over s i A.Converted zs long (contract In A.Converted (bytes zs) (d .0) (d .1))
 
     pub starts : Inv (startOf ps (length ds) rounding range) ds
-    starts = go (ltb rounding 5 && ltb range 3) refl (eqb (length ps) (length ds)) refl
+    starts = by-tests (ltb rounding 5 && ltb range 3) refl (eqb (length ps) (length ds)) refl
       where
         long : length (map of ds) ≡ length ds
         long = length-map ds of
 
-        go : (t : Bool) → ltb rounding 5 && ltb range 3 ≡ t → (u : Bool) → eqb (length ps) (length ds) ≡ u
-            → Inv (let s = cond t (cond u (going 0 0) (stopped 0 (A.LengthMismatch (length ps) (length ds)))) (stopped 0 A.UnknownCode) in cond (s .more) (stateAt ps 0) s) ds
-        go false e u f = over 0 A.UnknownCode ds refl (unknown In (codes-are (map of ds) ∙ e))
-        go true e false f =
+        by-tests : (t : Bool) → ltb rounding 5 && ltb range 3 ≡ t → (u : Bool) → eqb (length ps) (length ds) ≡ u
+            → Inv (let s = cond t (cond u (going rule choice 0 0) (stopped rule choice 0 (A.LengthMismatch (length ps) (length ds)))) (stopped rule choice 0 A.UnknownCode) in cond (s .more) (stateAt (s .rounding) (s .range) ps 0) s) ds
+        by-tests false e u f = over (going rule choice 0 0) 0 A.UnknownCode ds refl (unknown In (codes-are (map of ds) ∙ e))
+        by-tests true e false f =
             let n : length ps ≡ length ds → ⊥ = eqb-false (length ps) (length ds) f in
-            over 0 (A.LengthMismatch (length ps) (length ds)) ds refl
+            over (going rule choice 0 0) 0 (A.LengthMismatch (length ps) (length ds)) ds refl
             (subst (λ (r : Answer). Contract In r (bytes ds)) (ap₂ A.LengthMismatch (source-whole (map of ds) .0) (target-whole (map of ds) .0 ∙ long))
             (mismatch In (codes-are (map of ds) ∙ e) (map-is-whole (map of ds)) (bytes-are-whole (map of ds)) (λ h. n (sym (source-whole (map of ds) .0) ∙ h ∙ target-whole (map of ds) .0 ∙ long))))
-        go true e true f = let m = eqb-true (length ps) (length ds) f in at-position 0 ds (omega arith) m refl (first (map of ds) e (m ∙ sym long))
+        by-tests true e true f = let m = eqb-true (length ps) (length ds) f in at-position (going rule choice 0 0) (record { rule-is = refl; choice-is = refl }) 0 ds (omega arith) m refl (first (map of ds) e (m ∙ sym long))
 
     -- ---- one turn
     keeps : (i b : ℕ) → i < length ps → outcomeOf S (getD ps i 0) ≡ Stored b → toLe w (of (read b)) ≡ toLe w b
@@ -222,32 +239,32 @@ module _ {X Y Z : Type 0} (P : Elements X Y Z) (xs : List X) (ys : List Z) (roun
       pub asks : (s .x < 2 ^ bits (kindOf from)) × (s .at < length xs) × (s .at < length zs)
       asks = (subst (λ (z : ℕ). z < 2 ^ bits (kindOf from)) (sym (now .x-is)) (fits i (now .below)), subst (λ (n : ℕ). i < n) (length-map xs (P .source-bits)) (now .below), omega (arith, now .below, now .meet, inv .long))
 
-      turned : (z : Outcome) → z ≡ outcomeOf S (getD ps i 0) → Inv (nextState z ps i) (storedIn read z zs i) × (left (nextState z ps i) < left s)
-      turned z e = (next z (e ∙ sym (outcome-at (map of ds) i (now .below))) e, subst (λ (n : ℕ). left (nextState z ps i) < n) (sym turns-left) (fewer z))
+      turned : (z : Outcome) → z ≡ outcomeOf S (getD ps i 0) → Inv (nextState z ps s) (storedIn read z zs i) × (left (nextState z ps s) < left s)
+      turned z e = (next z (e ∙ sym (outcome-at (map of ds) i (now .below))) e, subst (λ (n : ℕ). left (nextState z ps s) < n) (sym turns-left) (fewer z))
         where
           turns-left : left s ≡ suc (length ps - i)
           turns-left = ap (λ (t : Bool). cond t (suc (length ps - i)) 0) more
 
-          fewer : (x : Outcome) → left (nextState x ps i) < suc (length ps - i)
+          fewer : (x : Outcome) → left (nextState x ps s) < suc (length ps - i)
           fewer (Stored b) = go (ltb (i + 1) (length ps))
             where
-              go : (t : Bool) → left (cond t (going (i + 1) (getD ps (i + 1) 0)) (stopped (i + 1) A.Converted)) < suc (length ps - i)
+              go : (t : Bool) → left (cond t (going (s .rounding) (s .range) (i + 1) (getD ps (i + 1) 0)) (stopped (s .rounding) (s .range) (i + 1) A.Converted)) < suc (length ps - i)
               go true = omega (arith, now .below)
               go false = omega arith
           fewer (NanOrInf x) = omega arith
           fewer (OutOfRange x lo hi) = omega arith
           fewer (FloatOutOfRange x lo hi) = omega arith
 
-          stays : (x : Outcome) → x ≡ o i → Refuses x → Inv (stopped i (answerNext x i A.Converted)) zs
+          stays : (x : Outcome) → x ≡ o i → Refuses x → Inv (stopped (s .rounding) (s .range) i (answerNext x i A.Converted)) zs
           stays x f r =
               let g = refused o w (length ps) R W i (bytes zs) (now .run) (now .below) (subst Refuses f r) in
-              over i (answerNext x i A.Converted) zs (inv .long) (contract In (answerNext x i A.Converted) (bytes zs) (ap (λ (u : Outcome). answerNext u i A.Converted) f ∙ sym (g .0)) (g .1))
+              over s i (answerNext x i A.Converted) zs (inv .long) (contract In (answerNext x i A.Converted) (bytes zs) (ap (λ (u : Outcome). answerNext u i A.Converted) f ∙ sym (g .0)) (g .1))
 
-          next : (x : Outcome) → x ≡ o i → x ≡ outcomeOf S (getD ps i 0) → Inv (nextState x ps i) (storedIn read x zs i)
+          next : (x : Outcome) → x ≡ o i → x ≡ outcomeOf S (getD ps i 0) → Inv (nextState x ps s) (storedIn read x zs i)
           next (Stored b) f h =
               let l : i < length zs = asks .2 in
               let room : i * w + w ≤ length (bytes zs) = le-trans (le-of-eq (sym (suc-mul i w))) (le-trans (mul-le-mul-right w l) (le-of-eq (sym (length-bytes w (map of zs) ∙ ap (λ (n : ℕ). n * w) (length-map zs of))))) in
-              at-position (i + 1) (set zs i (read b)) (omega (arith, now .below)) (now .meet) (length-set zs i (read b) ∙ inv .long)
+              at-position s (now .decoded) (i + 1) (set zs i (read b)) (omega (arith, now .below)) (now .meet) (length-set zs i (read b) ∙ inv .long)
               (rw add-one (kept o w (length ps) R W i (bytes zs) (now .run) (now .below) b (bytes (set zs i (read b))) (sym f) room
               (ap (bytesOf w) (map-set of zs i (read b)) ∙ set-bytes w (map of zs) i (of (read b)) (subst (λ (n : ℕ). i < n) (sym (length-map zs of)) l)
               ∙ ap (λ (t : List ℕ). take (i * w) (bytes zs) ++ (t ++ drop w (drop (i * w) (bytes zs)))) (keeps i b (now .below) (sym h)))))
@@ -257,7 +274,7 @@ module _ {X Y Z : Type 0} (P : Elements X Y Z) (xs : List X) (ys : List Z) (roun
 
       -- what was found, and what the step then says of the state and of the destination
       pub turns : (f : Lookup) → f ≡ lookupOf (kindOf from) (valueOf (kindOf from) (s .x)) es → (r : State) (ws : List Y)
-          → (r ≡ nextState (outcomeFor from to (s .x) f rounding range) ps (s .at)) × (ws ≡ storedIn read (outcomeFor from to (s .x) f rounding range) zs (s .at)) → Inv r ws × (left r < left s)
+          → (r ≡ nextState (outcomeFor from to s f) ps s) × (ws ≡ storedIn read (outcomeFor from to s f) zs (s .at)) → Inv r ws × (left r < left s)
       turns f e r ws said =
-          let t = turned (outcomeFor from to (s .x) f rounding range) (outcome-is (s .x) f e ∙ ap (outcomeOf S) (now .x-is)) in
+          let t = turned (outcomeFor from to s f) (outcome-is s f (now .decoded) e ∙ ap (outcomeOf S) (now .x-is)) in
           (subst (λ (p : State × List Y). Inv (p .0) (p .1)) (λ j. (sym (said .0) j, sym (said .1) j)) (t .0), subst (λ (x : State). left x < left s) (sym (said .0)) (t .1))

@@ -1,12 +1,12 @@
--- A typed entry's inputs as those of the chunk call: the elements' patterns, lowest byte first.
--- Assumes nothing.
+-- To be believed: a typed call's inputs as those of the chunk call: the elements' patterns, lowest byte first.
 use mathlib.Core.List.{List, [], _∷_, _++_, map}
 use Prim.Native.Nat.{ℕ}
 use Rattle.bytes_le.specs.Bytes.{toLe}
+use Rattle.patterns.specs.Kind.{width}
 use Rattle.kinds.specs.Codes.{kindOf}
 use Rattle.kinds.specs.declared.Answer.{Answer}
 use Rattle.cast_spec.specs.Element as E
-use Rattle.cast_spec.specs.Chunk.{Inputs, inputs, width}
+use Rattle.cast_spec.specs.Chunk.{Inputs, inputs}
 use Rattle.cast_spec.specs.Demand3.{Contract}
 
 -- ---- the bytes of patterns of w bytes each, in their order
@@ -27,7 +27,7 @@ typedInputs from to src dst es rounding range = inputs
 abbrev pub refusedNan : ℕ
 refusedNan = 0x7ff8_0000_0000_0000
 
--- ---- a typed entry's contract is the chunk call's: the answer and every byte by an equation with the definitions, and demand 3.
+-- ---- a typed call's contract is the chunk call's: the answer and every byte by an equation with the definitions, and demand 3.
 -- Free is which pattern a NaN in the destination has; it is a NaN, and stands here as the quiet one. A refused NaN's value is `refusedNan`.
 abbrev pub TypedContract : ℕ → ℕ → List ℕ → List ℕ → List E.Entry → ℕ → ℕ → Answer → List ℕ → Type 0
 TypedContract from to src dst es rounding range r dst′ = Contract (typedInputs from to src dst es rounding range) r (bytesOf (width (kindOf to)) dst′)

@@ -1,19 +1,19 @@
-// The typed entries: slices of numbers converted element by element, with a slice of map entries, by the same steps as the chunk call.
+// The typed calls: slices of numbers converted element by element, with a slice of map entries, by the same steps as the chunk call.
 ghost use mathlib.Core.Path.{_≡_};
 ghost use mathlib.Core.List.{map};
 ghost use Prim.Native.Nat.{_<_, _^_};
 ghost use lib.ListN.{length};
-ghost use Rattle.kinds.specs.Codes.{kindOf};
 ghost use Rattle.cast_spec.specs.Chunk.{answerNext};
-ghost use Rattle.kinds.specs.Row.{rowOf};
-ghost use Rattle.element.specs.Convert.{FloatPattern};
 ghost use Rattle.typed_values.specs.Bits.{f64Bits, f32Bits, i64Bits, u8Bits, i32Bits, u8Of, i32Of, f32Of};
 ghost use Rattle.typed_entries.specs.Entries.{f64U8, f64I32, f32U8, f64F32, i64F32};
 ghost use Rattle.typed.specs.Typed.{TypedContract};
-ghost use Rattle.typed.specs.Loop.{checkOf, stateAt, startOf, stopped, outcomeFor, nextState, storedIn};
+ghost use Rattle.typed.specs.Loop.{checkOf, stateAt, startOf, going, stopped, outcomeFor, nextState, storedIn};
+use grid::RoundingMode;
 use kinds::Answer;
-use kinds::KindRow;
+use kinds::Fit;
+use kinds::Format;
 use kinds::Lookup;
+use kinds::OutOfRangeMode;
 use kinds::Outcome;
 use typed_entries::Entry;
 use typed_entries::EntryF32U8;
@@ -21,12 +21,15 @@ use typed_entries::EntryF64I32;
 use typed_entries::EntryF64U8;
 use typed_entries::EntryI64F32;
 
-// What the loop of an entry carries: whether an element is to be converted, its position and its pattern, and the answer once the loop ends.
+// What the loop of a typed call carries: whether an element is to be converted, its position and its pattern, the answer once the loop ends,
+// and what the call's codes say.
 pub struct State {
     pub more: bool,
     pub at: usize,
     pub x: u64,
     pub answer: Answer,
+    pub rounding: RoundingMode,
+    pub range: OutOfRangeMode,
 }
 
 // Three map entries by value.
@@ -40,17 +43,33 @@ pub type ThreeEntry = [Entry; 3];
 
 pub type ThreeEntryI64F32 = [EntryI64F32; 3];
 
-// ---- the loop's parts that every entry shares
+// ---- the loop's parts that every typed call shares
+
+// The element at a position, of the pattern x, is to be converted.
+fn go(at: usize, x: u64, rounding: RoundingMode, range: OutOfRangeMode) -> State
+    ensures { λ r. ⌜ r ≡ going rounding range at x ⌝ }
+{
+    State {
+        more: true,
+        at: at,
+        x: x,
+        answer: Answer::Converted,
+        rounding: rounding,
+        range: range,
+    }
+}
 
 // The loop is over, with an answer.
-fn stop(at: usize, answer: Answer) -> State
-    ensures { λ r. ⌜ r ≡ stopped at answer ⌝ }
+fn stop(at: usize, answer: Answer, rounding: RoundingMode, range: OutOfRangeMode) -> State
+    ensures { λ r. ⌜ r ≡ stopped rounding range at answer ⌝ }
 {
     State {
         more: false,
         at: at,
         x: 0,
         answer: answer,
+        rounding: rounding,
+        range: range,
     }
 }
 
@@ -58,88 +77,31 @@ fn stop(at: usize, answer: Answer) -> State
 fn check(n: usize, m: usize, rounding: u8, range: u8) -> State
     ensures { λ r. ⌜ r ≡ checkOf n m rounding range ⌝ }
 {
+    let rounding_mode = kinds::rounding_of(rounding);
+    let range_mode = kinds::range_of(range);
     if 5 <= rounding {
-        return stop(0, Answer::UnknownCode);
+        return stop(0, Answer::UnknownCode, rounding_mode, range_mode);
     }
     if 3 <= range {
-        return stop(0, Answer::UnknownCode);
+        return stop(0, Answer::UnknownCode, rounding_mode, range_mode);
     }
     if n != m {
-        return stop(
-            0,
-            Answer::LengthMismatch {
-                src_len: n,
-                dst_len: m,
-            },
-        );
+        let answer = Answer::LengthMismatch {
+            src_len: n,
+            dst_len: m,
+        };
+        return stop(0, answer, rounding_mode, range_mode);
     }
-    State {
-        more: true,
-        at: 0,
-        x: 0,
-        answer: Answer::Converted,
-    }
+    go(0, 0, rounding_mode, range_mode)
 }
 
-// One element's steps from a float to an integer kind: the target that was found, or the conversion of the pattern x.
-fn outcome_float_to_int(
-    x: u64,
-    f: Lookup,
-    from: u8,
-    to: u8,
-    target: KindRow,
-    rounding: u8,
-    range: u8,
-) -> Outcome
-    requires { ⌜ FloatPattern x from × (to < 8) × (target ≡ rowOf (kindOf to)) ⌝ }
-    ensures { λ r. ⌜ r ≡ outcomeFor from to x f rounding range ⌝ }
+// The loop's end at a refused element, by its outcome.
+fn refuse(s: State, o: Outcome) -> State
+    ensures { λ r. ⌜ r ≡ stopped (s .rounding) (s .range) (s .at) (answerNext o (s .at) Answer.Converted) ⌝ }
 {
-    match f {
-        Lookup::Found(pattern) => Outcome::Stored(pattern),
-        Lookup::Missing => element::convert_float_to_int(
-            x,
-            from,
-            target,
-            kinds::rounding_of(rounding),
-            kinds::range_of(range),
-        ),
-    }
-}
-
-// Those of an f64 to f32.
-fn outcome_f64_to_f32(x: u64, f: Lookup, rounding: u8, range: u8) -> Outcome
-    ensures { λ r. ⌜ r ≡ outcomeFor 9 8 x f rounding range ⌝ }
-{
-    match f {
-        Lookup::Found(pattern) => Outcome::Stored(pattern),
-        Lookup::Missing => element::convert_float_to_float(
-            x,
-            9,
-            8,
-            kinds::rounding_of(rounding),
-            kinds::range_of(range),
-        ),
-    }
-}
-
-// Those of an i64 to f32; no range choice matters.
-fn outcome_i64_to_f32(x: u64, f: Lookup, rounding: u8, range: u8) -> Outcome
-    ensures { λ r. ⌜ r ≡ outcomeFor 3 8 x f rounding range ⌝ }
-{
-    match f {
-        Lookup::Found(pattern) => Outcome::Stored(pattern),
-        Lookup::Missing => {
-            let row = kinds::row_i64();
-            element::convert_int_to_float(x, row, 8, kinds::rounding_of(rounding))
-        }
-    }
-}
-
-// The loop's end at a refused element.
-fn refuse(at: usize, o: Outcome) -> State
-    ensures { λ r. ⌜ r ≡ stopped at (answerNext o at Answer.Converted) ⌝ }
-{
-    stop(at, chunk::refusal(at, o))
+    let rounding = s.rounding;
+    let range = s.range;
+    stop(s.at, element::refusal(s.at, o), rounding, range)
 }
 
 // The answer of a loop that has ended.
@@ -152,19 +114,13 @@ fn answer_of(s: State) -> Answer
 // ---- sources
 
 // The state at a position of f64 elements.
-fn state_f64(src: &[f64], at: usize) -> State
-    ensures { λ r. ⌜ r ≡ stateAt (map f64Bits (now (src .entry))) at ⌝ }
+fn state_f64(src: &[f64], at: usize, rounding: RoundingMode, range: OutOfRangeMode) -> State
+    ensures { λ r. ⌜ r ≡ stateAt rounding range (map f64Bits (now (src .entry))) at ⌝ }
 {
     if at < src.len() {
-        let x = typed_values::bits_f64(src[at]);
-        return State {
-            more: true,
-            at: at,
-            x: x,
-            answer: Answer::Converted,
-        };
+        return go(at, typed_values::bits_f64(src[at]), rounding, range);
     }
-    stop(at, Answer::Converted)
+    stop(at, Answer::Converted, rounding, range)
 }
 
 // The checks, and the state at the first element.
@@ -173,25 +129,21 @@ fn start_f64(src: &[f64], room: usize, rounding: u8, range: u8) -> State
 {
     let s = check(src.len(), room, rounding, range);
     if s.more {
-        return state_f64(src, 0);
+        let rounding_mode = s.rounding;
+        let range_mode = s.range;
+        return state_f64(src, 0, rounding_mode, range_mode);
     }
     s
 }
 
 // The state at a position of f32 elements.
-fn state_f32(src: &[f32], at: usize) -> State
-    ensures { λ r. ⌜ r ≡ stateAt (map f32Bits (now (src .entry))) at ⌝ }
+fn state_f32(src: &[f32], at: usize, rounding: RoundingMode, range: OutOfRangeMode) -> State
+    ensures { λ r. ⌜ r ≡ stateAt rounding range (map f32Bits (now (src .entry))) at ⌝ }
 {
     if at < src.len() {
-        let x = typed_values::bits_f32(src[at]);
-        return State {
-            more: true,
-            at: at,
-            x: x,
-            answer: Answer::Converted,
-        };
+        return go(at, typed_values::bits_f32(src[at]), rounding, range);
     }
-    stop(at, Answer::Converted)
+    stop(at, Answer::Converted, rounding, range)
 }
 
 // The checks, and the state at the first element.
@@ -200,25 +152,21 @@ fn start_f32(src: &[f32], room: usize, rounding: u8, range: u8) -> State
 {
     let s = check(src.len(), room, rounding, range);
     if s.more {
-        return state_f32(src, 0);
+        let rounding_mode = s.rounding;
+        let range_mode = s.range;
+        return state_f32(src, 0, rounding_mode, range_mode);
     }
     s
 }
 
 // The state at a position of i64 elements.
-fn state_i64(src: &[i64], at: usize) -> State
-    ensures { λ r. ⌜ r ≡ stateAt (map i64Bits (now (src .entry))) at ⌝ }
+fn state_i64(src: &[i64], at: usize, rounding: RoundingMode, range: OutOfRangeMode) -> State
+    ensures { λ r. ⌜ r ≡ stateAt rounding range (map i64Bits (now (src .entry))) at ⌝ }
 {
     if at < src.len() {
-        let x = typed_values::bits_i64(src[at]);
-        return State {
-            more: true,
-            at: at,
-            x: x,
-            answer: Answer::Converted,
-        };
+        return go(at, typed_values::bits_i64(src[at]), rounding, range);
     }
-    stop(at, Answer::Converted)
+    stop(at, Answer::Converted, rounding, range)
 }
 
 // The checks, and the state at the first element.
@@ -227,7 +175,9 @@ fn start_i64(src: &[i64], room: usize, rounding: u8, range: u8) -> State
 {
     let s = check(src.len(), room, rounding, range);
     if s.more {
-        return state_i64(src, 0);
+        let rounding_mode = s.rounding;
+        let range_mode = s.range;
+        return state_i64(src, 0, rounding_mode, range_mode);
     }
     s
 }
@@ -235,17 +185,25 @@ fn start_i64(src: &[i64], room: usize, rounding: u8, range: u8) -> State
 // ---- f64 to u8
 
 // One element: stored, and the state at the next; or refused.
-fn step_f64_u8(src: &[f64], dst: &mut [u8], s: State, f: Lookup, rounding: u8, range: u8) -> State
+fn step_f64_u8(src: &[f64], dst: &mut [u8], s: State, f: Lookup) -> State
     requires { ⌜ (s .x < 2 ^ 64) × (s .at < length (now src)) × (s .at < length (now dst)) ⌝ }
-    ensures { λ r. ⌜ (r ≡ nextState (outcomeFor 9 4 (s .x) f rounding range) (map f64Bits (now (src .entry))) (s .at)) × (now (dst .exit) ≡ storedIn u8Of (outcomeFor 9 4 (s .x) f rounding range) (now (dst .entry)) (s .at)) ⌝ }
+    ensures { λ r. ⌜ (r ≡ nextState (outcomeFor 9 4 s f) (map f64Bits (now (src .entry))) s) × (now (dst .exit) ≡ storedIn u8Of (outcomeFor 9 4 s f) (now (dst .entry)) (s .at)) ⌝ }
 {
     let at = s.at;
-    let o = outcome_float_to_int(s.x, f, 9, 4, kinds::row_u8(), rounding, range);
-    if let Outcome::Stored(pattern) = o {
+    let rounding = s.rounding;
+    let range = s.range;
+    let fit = element::step_float_to_int(s.x, f, kinds::F64, kinds::U8, rounding, range);
+    if let Fit::Pattern(pattern) = fit {
         dst[at] = typed_values::u8_of(pattern);
-        return state_f64(src, at + 1);
+        return state_f64(src, at + 1, rounding, range);
     }
-    refuse(at, o)
+    let o = element::outcome(
+        s.x,
+        fit,
+        Format::Float(kinds::F64),
+        Format::Integer(kinds::U8),
+    );
+    refuse(s, o)
 }
 
 // Converts f64 elements to u8. A refusal 1 or 4 leaves the destination as it was; 5 and 6 leave it so from the refused element on.
@@ -261,7 +219,7 @@ pub fn convert_f64_to_u8(
     let mut s = start_f64(src, dst.len(), rounding, range);
     while s.more {
         let f = typed_entries::lookup_f64_u8(entries, s.x);
-        s = step_f64_u8(src, dst, s, f, rounding, range);
+        s = step_f64_u8(src, dst, s, f);
     }
     answer_of(s)
 }
@@ -282,17 +240,25 @@ pub fn convert_f64_to_u8_with3(
 // ---- f64 to i32
 
 // One element: stored, and the state at the next; or refused.
-fn step_f64_i32(src: &[f64], dst: &mut [i32], s: State, f: Lookup, rounding: u8, range: u8) -> State
+fn step_f64_i32(src: &[f64], dst: &mut [i32], s: State, f: Lookup) -> State
     requires { ⌜ (s .x < 2 ^ 64) × (s .at < length (now src)) × (s .at < length (now dst)) ⌝ }
-    ensures { λ r. ⌜ (r ≡ nextState (outcomeFor 9 2 (s .x) f rounding range) (map f64Bits (now (src .entry))) (s .at)) × (now (dst .exit) ≡ storedIn i32Of (outcomeFor 9 2 (s .x) f rounding range) (now (dst .entry)) (s .at)) ⌝ }
+    ensures { λ r. ⌜ (r ≡ nextState (outcomeFor 9 2 s f) (map f64Bits (now (src .entry))) s) × (now (dst .exit) ≡ storedIn i32Of (outcomeFor 9 2 s f) (now (dst .entry)) (s .at)) ⌝ }
 {
     let at = s.at;
-    let o = outcome_float_to_int(s.x, f, 9, 2, kinds::row_i32(), rounding, range);
-    if let Outcome::Stored(pattern) = o {
+    let rounding = s.rounding;
+    let range = s.range;
+    let fit = element::step_float_to_int(s.x, f, kinds::F64, kinds::I32, rounding, range);
+    if let Fit::Pattern(pattern) = fit {
         dst[at] = typed_values::i32_of(pattern);
-        return state_f64(src, at + 1);
+        return state_f64(src, at + 1, rounding, range);
     }
-    refuse(at, o)
+    let o = element::outcome(
+        s.x,
+        fit,
+        Format::Float(kinds::F64),
+        Format::Integer(kinds::I32),
+    );
+    refuse(s, o)
 }
 
 // Converts f64 elements to i32. A refusal 1 or 4 leaves the destination as it was; 5 and 6 leave it so from the refused element on.
@@ -308,7 +274,7 @@ pub fn convert_f64_to_i32(
     let mut s = start_f64(src, dst.len(), rounding, range);
     while s.more {
         let f = typed_entries::lookup_f64_i32(entries, s.x);
-        s = step_f64_i32(src, dst, s, f, rounding, range);
+        s = step_f64_i32(src, dst, s, f);
     }
     answer_of(s)
 }
@@ -329,17 +295,25 @@ pub fn convert_f64_to_i32_with3(
 // ---- f32 to u8
 
 // One element: stored, and the state at the next; or refused.
-fn step_f32_u8(src: &[f32], dst: &mut [u8], s: State, f: Lookup, rounding: u8, range: u8) -> State
+fn step_f32_u8(src: &[f32], dst: &mut [u8], s: State, f: Lookup) -> State
     requires { ⌜ (s .x < 2 ^ 32) × (s .at < length (now src)) × (s .at < length (now dst)) ⌝ }
-    ensures { λ r. ⌜ (r ≡ nextState (outcomeFor 8 4 (s .x) f rounding range) (map f32Bits (now (src .entry))) (s .at)) × (now (dst .exit) ≡ storedIn u8Of (outcomeFor 8 4 (s .x) f rounding range) (now (dst .entry)) (s .at)) ⌝ }
+    ensures { λ r. ⌜ (r ≡ nextState (outcomeFor 8 4 s f) (map f32Bits (now (src .entry))) s) × (now (dst .exit) ≡ storedIn u8Of (outcomeFor 8 4 s f) (now (dst .entry)) (s .at)) ⌝ }
 {
     let at = s.at;
-    let o = outcome_float_to_int(s.x, f, 8, 4, kinds::row_u8(), rounding, range);
-    if let Outcome::Stored(pattern) = o {
+    let rounding = s.rounding;
+    let range = s.range;
+    let fit = element::step_float_to_int(s.x, f, kinds::F32, kinds::U8, rounding, range);
+    if let Fit::Pattern(pattern) = fit {
         dst[at] = typed_values::u8_of(pattern);
-        return state_f32(src, at + 1);
+        return state_f32(src, at + 1, rounding, range);
     }
-    refuse(at, o)
+    let o = element::outcome(
+        s.x,
+        fit,
+        Format::Float(kinds::F32),
+        Format::Integer(kinds::U8),
+    );
+    refuse(s, o)
 }
 
 // Converts f32 elements to u8. A refusal 1 or 4 leaves the destination as it was; 5 and 6 leave it so from the refused element on.
@@ -355,7 +329,7 @@ pub fn convert_f32_to_u8(
     let mut s = start_f32(src, dst.len(), rounding, range);
     while s.more {
         let f = typed_entries::lookup_f32_u8(entries, s.x);
-        s = step_f32_u8(src, dst, s, f, rounding, range);
+        s = step_f32_u8(src, dst, s, f);
     }
     answer_of(s)
 }
@@ -376,17 +350,25 @@ pub fn convert_f32_to_u8_with3(
 // ---- f64 to f32
 
 // One element: stored, and the state at the next; or refused.
-fn step_f64_f32(src: &[f64], dst: &mut [f32], s: State, f: Lookup, rounding: u8, range: u8) -> State
+fn step_f64_f32(src: &[f64], dst: &mut [f32], s: State, f: Lookup) -> State
     requires { ⌜ (s .x < 2 ^ 64) × (s .at < length (now src)) × (s .at < length (now dst)) ⌝ }
-    ensures { λ r. ⌜ (r ≡ nextState (outcomeFor 9 8 (s .x) f rounding range) (map f64Bits (now (src .entry))) (s .at)) × (now (dst .exit) ≡ storedIn f32Of (outcomeFor 9 8 (s .x) f rounding range) (now (dst .entry)) (s .at)) ⌝ }
+    ensures { λ r. ⌜ (r ≡ nextState (outcomeFor 9 8 s f) (map f64Bits (now (src .entry))) s) × (now (dst .exit) ≡ storedIn f32Of (outcomeFor 9 8 s f) (now (dst .entry)) (s .at)) ⌝ }
 {
     let at = s.at;
-    let o = outcome_f64_to_f32(s.x, f, rounding, range);
-    if let Outcome::Stored(pattern) = o {
+    let rounding = s.rounding;
+    let range = s.range;
+    let fit = element::step_float_to_float(s.x, f, kinds::F64, kinds::F32, rounding, range);
+    if let Fit::Pattern(pattern) = fit {
         dst[at] = typed_values::f32_of(pattern);
-        return state_f64(src, at + 1);
+        return state_f64(src, at + 1, rounding, range);
     }
-    refuse(at, o)
+    let o = element::outcome(
+        s.x,
+        fit,
+        Format::Float(kinds::F64),
+        Format::Float(kinds::F32),
+    );
+    refuse(s, o)
 }
 
 // Converts f64 elements to f32. A refusal 1 or 4 leaves the destination as it was; 7 leaves it so from the refused element on.
@@ -402,7 +384,7 @@ pub fn convert_f64_to_f32(
     let mut s = start_f64(src, dst.len(), rounding, range);
     while s.more {
         let f = typed_entries::lookup_f64_f32(entries, s.x);
-        s = step_f64_f32(src, dst, s, f, rounding, range);
+        s = step_f64_f32(src, dst, s, f);
     }
     answer_of(s)
 }
@@ -423,17 +405,25 @@ pub fn convert_f64_to_f32_with3(
 // ---- i64 to f32
 
 // One element: stored, and the state at the next; or refused.
-fn step_i64_f32(src: &[i64], dst: &mut [f32], s: State, f: Lookup, rounding: u8, range: u8) -> State
+fn step_i64_f32(src: &[i64], dst: &mut [f32], s: State, f: Lookup) -> State
     requires { ⌜ (s .x < 2 ^ 64) × (s .at < length (now src)) × (s .at < length (now dst)) ⌝ }
-    ensures { λ r. ⌜ (r ≡ nextState (outcomeFor 3 8 (s .x) f rounding range) (map i64Bits (now (src .entry))) (s .at)) × (now (dst .exit) ≡ storedIn f32Of (outcomeFor 3 8 (s .x) f rounding range) (now (dst .entry)) (s .at)) ⌝ }
+    ensures { λ r. ⌜ (r ≡ nextState (outcomeFor 3 8 s f) (map i64Bits (now (src .entry))) s) × (now (dst .exit) ≡ storedIn f32Of (outcomeFor 3 8 s f) (now (dst .entry)) (s .at)) ⌝ }
 {
     let at = s.at;
-    let o = outcome_i64_to_f32(s.x, f, rounding, range);
-    if let Outcome::Stored(pattern) = o {
+    let rounding = s.rounding;
+    let range = s.range;
+    let fit = element::step_int_to_float(s.x, f, kinds::I64, kinds::F32, rounding, range);
+    if let Fit::Pattern(pattern) = fit {
         dst[at] = typed_values::f32_of(pattern);
-        return state_i64(src, at + 1);
+        return state_i64(src, at + 1, rounding, range);
     }
-    refuse(at, o)
+    let o = element::outcome(
+        s.x,
+        fit,
+        Format::Integer(kinds::I64),
+        Format::Float(kinds::F32),
+    );
+    refuse(s, o)
 }
 
 // Converts i64 elements to f32. A refusal 1 or 4 leaves the destination as it was; no element is refused.
@@ -449,7 +439,7 @@ pub fn convert_i64_to_f32(
     let mut s = start_i64(src, dst.len(), rounding, range);
     while s.more {
         let f = typed_entries::lookup_i64_f32(entries, s.x);
-        s = step_i64_f32(src, dst, s, f, rounding, range);
+        s = step_i64_f32(src, dst, s, f);
     }
     answer_of(s)
 }

@@ -1,5 +1,4 @@
 -- The types of the five pairs' entries.
--- Assumes nothing.
 use lib.IntN.{pos}
 use lib.Ieee.{nan}
 use Rattle.kinds.specs.Codes.{kindOf}

@@ -1,7 +1,6 @@
--- The lookup of every typed entry, as one function over the entry's type, meets its contract: a walk of its MIR, by hand. Only the type and the names of the two callees differ.
+-- The lookup in a slice of map entries, as one function over the entry's type, meets its contract: a walk of its MIR, by hand. Only the type and the names of the two callees differ.
 -- Each turn duplicates what the slice owns, looks into one copy, copies the entry out, shuts it, and calls the match test on the copy. The loop is left by its test, or by a `return` inside a turn.
 -- The invariant: i ≤ the count, and what is to be found from i on is what is to be found from the start.
--- Assumes nothing.
 use mathlib.Core.Bool.{Bool, true, false, not, cond as either}
 use mathlib.Core.List.{List, [], _∷_, map}
 use mathlib.Core.Path.{_≡_, refl, sym, _∙_, ap}
@@ -372,5 +371,5 @@ module _ (P : EntryType) where
       walks = walked 𝓤 H A ended stayed (clauses 𝓤) (WpFn 𝓤 H (𝓣 .C) (𝓣 .Λ) function) (λ κs. (slice-vals, (uint-vals w64, tt))) (λ κs. (shr-slice-tells (named 0) (κs .0) R, (uint-tells w64, tt)))
           (λ κs qs bounds a g are. needs 𝓤 (a .1 .0 < 2 ^ bits k) _ (λ asked. walk 𝓤 H A W (κs .0) (qs .0) (a .0) (a .1 .0) (are .1 .0 .1) asked 𝓣 (fmOf 𝓤 H (W .laws) 𝓣) known-test known-found (are .0)))
 
-      pub meets : Meets 𝓤 H A (ended .signature) (WpFn 𝓤 H (𝓣 .C) (𝓣 .Λ) function) (closing 𝓤 H A ended (clauses 𝓤))
-      meets = walk-meets 𝓤 H A ended stayed W (goes-none-slice 𝓤 H A W 1 (0 ∷ []) tt (plain (λ _. R)) yes, (goes-none 𝓤 H A W 1 (λ _. u64) yes (λ κs y f. refl), tt)) (clauses 𝓤) (WpFn 𝓤 H (𝓣 .C) (𝓣 .Λ) function) (WpFn-mono 𝓤 H (W .laws) 𝓣 function) walks
+      pub lookup-meets-contract : Meets 𝓤 H A (ended .signature) (WpFn 𝓤 H (𝓣 .C) (𝓣 .Λ) function) (closing 𝓤 H A ended (clauses 𝓤))
+      lookup-meets-contract = walk-meets 𝓤 H A ended stayed W (goes-none-slice 𝓤 H A W 1 (0 ∷ []) tt (plain (λ _. R)) yes, (goes-none 𝓤 H A W 1 (λ _. u64) yes (λ κs y f. refl), tt)) (clauses 𝓤) (WpFn 𝓤 H (𝓣 .C) (𝓣 .Λ) function) (WpFn-mono 𝓤 H (W .laws) 𝓣 function) walks

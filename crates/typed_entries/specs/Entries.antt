@@ -1,5 +1,4 @@
--- An entry of each pair as the patterns of its key and its target.
--- Assumes nothing.
+-- To be believed: an entry of each pair as the patterns of its key and its target.
 use Rattle.cast_spec.specs.Element as E
 use Rattle.typed_values.specs.Bits.{f64Bits, f32Bits, i64Bits, i32Bits, u8Bits}
 use Rattle.typed_entries.specs.declared.EntryF64U8.{EntryF64U8}

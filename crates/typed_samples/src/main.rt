@@ -1,4 +1,4 @@
-// Typed samples through each typed entry, and the same elements as bytes through the chunk call. Each line is the pair, the rounding and range codes, whether
+// Typed samples through each typed call, and the same elements as bytes through the chunk call. Each line is the pair, the rounding and range codes, whether
 // both routes agree in the answer and in every byte, the answer's number, the position of a refusal, and the typed destination's bytes.
 ghost use Prim.Native.Nat.{_+_, _≤_};
 ghost use lib.ListN.{length};

@@ -1,5 +1,4 @@
 -- Each type's patterns fit: they are below 2 to its bits.
--- Assumes nothing.
 use mathlib.Core.Bool.{true}
 use Prim.Native.Nat.{ℕ, _^_, _<_}
 use native.Mathlib.Nat.{mod-lt}

@@ -1,5 +1,4 @@
 -- A float's pattern that stands for a NaN is the quiet one; and a pattern that stands for no NaN, or is a float's own, is the one that the f32 read from it has.
--- Assumes nothing.
 use mathlib.Core.Bool.{not}
 use mathlib.Core.Path.{_≡_, refl, sym, ap, _∙_}
 use Prim.Native.Nat.{ℕ, _^_, _<_}

@@ -1,5 +1,4 @@
 -- Floats as patterns: each has one below 2 to its format's bits, and what is read from that pattern has it again.
--- Assumes nothing.
 use mathlib.Core.Bool.{Bool, true, false, not, cond, true≢false}
 use mathlib.Core.Path.{_≡_, refl, sym, ap, subst, _∙_}
 use Prim.Native.Nat.{ℕ, _*_, _%_, _≤_, _<_}

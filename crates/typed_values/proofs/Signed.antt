@@ -1,5 +1,4 @@
 -- A signed number's bits, as the machine works them out: those of -1 - z, each turned over, where z lies below zero; and a signed number read from its bits. For any width.
--- Assumes nothing.
 use mathlib.Core.Bool.{Bool, true, false, cond, true≢false}
 use mathlib.Core.Path.{_≡_, refl, sym, ap, _∙_, subst}
 use Prim.Native.Nat.{ℕ, zero, suc, _+_, _-_, _%_, _^_, _≤_, _<_}

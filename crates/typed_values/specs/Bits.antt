@@ -1,5 +1,4 @@
--- A typed value's pattern, and the value that a pattern's lowest bits are.
--- Assumes nothing.
+-- To be believed: a typed value's pattern, and the value that a pattern's lowest bits are.
 use mathlib.Core.Bool.{cond}
 use Prim.Native.Nat.{ℕ, _-_, _%_, _^_}
 use lib.Dec.{ltb}

@@ -3,8 +3,6 @@ ghost use mathlib.Core.Path.{_≡_};
 ghost use Prim.Native.Nat.{_<_, _≤_};
 ghost use Rattle.grid.specs.Round.{signed};
 ghost use Rattle.patterns.specs.Pattern.{lowBits};
-ghost use Rattle.wrapping.specs.Whole.{truncated};
-use grid::RoundingMode;
 
 // The lowest bits of a whole number; those of a negative one are its residue, formed by wrapping subtraction.
 pub fn wrap_magnitude(negative: bool, magnitude: u64, bits: u32) -> u64
@@ -13,14 +11,5 @@ pub fn wrap_magnitude(negative: bool, magnitude: u64, bits: u32) -> u64
 {
     let mask = 0xffff_ffff_ffff_ffff >> (64 - bits);
     let residue = std::num::wrapping_sub_u64(0, magnitude);
-    select::choose(negative, magnitude, residue) & mask
-}
-
-// The lowest bits of the whole part of an f64, however large it is.
-pub fn wrap_integral_f64(b: u64, bits: u32) -> u64
-    requires { ⌜ (0 < bits) × (bits ≤ 64) ⌝ }
-    ensures { λ r. ⌜ r ≡ lowBits bits (truncated b) ⌝ }
-{
-    let w = rounding::round_to_whole(b, RoundingMode::TowardsZero);
-    wrap_magnitude(w.negative, w.magnitude, bits)
+    select::choose(negative, residue, magnitude) & mask
 }

@@ -35,7 +35,7 @@ pub struct Entry<K, T> {
     pub target: T,
 }
 
-/// A typed entry of the library, and its safe wrapper.
+/// A typed call of the library, and its safe wrapper.
 macro_rules! typed {
     ($name:ident, $entry:ident, $source:ty, $target:ty) => {
         extern "C" {

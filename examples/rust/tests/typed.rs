@@ -1,4 +1,4 @@
-//! Each typed entry against the byte route on the elements' bytes: answers, and every element, a NaN as a NaN.
+//! Each typed call against the byte route on the elements' bytes: answers, and every element, a NaN as a NaN.
 use polskrea::{convert, convert_f32_to_u8, convert_f64_to_f32, convert_f64_to_i32, convert_f64_to_u8, convert_i64_to_f32, CastError, Entry, Kind, Map, OutOfRangeMode, RoundingMode};
 
 const ROUNDINGS: [RoundingMode; 5] = [RoundingMode::NearestEven, RoundingMode::TowardsZero, RoundingMode::TowardsPositive, RoundingMode::TowardsNegative, RoundingMode::NearestAway];

@@ -1,5 +1,4 @@
 -- `bytes_le::get1` reads one byte.
--- Assumes nothing.
 use mathlib.Core.Path.{_∙_}
 use denote.Ref.{now}
 use Rattle.bytes_le.proofs.Halves.{one}

@@ -1,5 +1,4 @@
 -- `bytes_le::get2` reads two bytes, by its two.
--- Assumes nothing.
 use denote.Ref.{now}
 use Rattle.bytes_le.proofs.Halves.{read-halves}
 use borrow.Author.Needs.{needs}

@@ -1,5 +1,4 @@
 -- `bytes_le::get8` reads eight bytes, by its two halves.
--- Assumes nothing.
 use denote.Ref.{now}
 use Rattle.bytes_le.proofs.Halves.{read-halves}
 use borrow.Author.Needs.{needs}

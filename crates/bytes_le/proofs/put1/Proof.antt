@@ -1,5 +1,4 @@
 -- `bytes_le::put1` puts one byte.
--- Assumes nothing.
 use Prim.Native.Nat.{_%_}
 use denote.Ref.{now}
 use Rattle.bytes_le.proofs.Halves.{set-one}

@@ -1,5 +1,4 @@
 -- `bytes_le::put2` puts two bytes, by its two.
--- Assumes nothing.
 use denote.Ref.{now}
 use Rattle.bytes_le.proofs.Halves.{put-halves}
 use borrow.Author.Needs.{needs}

@@ -1,5 +1,4 @@
 -- `bytes_le::put4` puts four bytes, by its two halves.
--- Assumes nothing.
 use denote.Ref.{now}
 use Rattle.bytes_le.proofs.Halves.{put-halves}
 use borrow.Author.Needs.{needs}

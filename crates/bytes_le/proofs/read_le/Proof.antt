@@ -1,5 +1,4 @@
 -- `bytes_le::read_le` meets its contract: each arm reads the whole of the part that it takes.
--- Assumes nothing.
 use mathlib.Core.Path.{_≡_, _∙_}
 use denote.Ref.{now}
 use Rattle.bytes_le.proofs.Parts.{last-width, part-length, read-part}

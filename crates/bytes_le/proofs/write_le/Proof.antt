@@ -1,5 +1,4 @@
 -- `bytes_le::write_le` meets its contract: each arm fills the whole of the part that it lends.
--- Assumes nothing.
 use mathlib.Core.Path.{_≡_, _∙_}
 use denote.Ref.{now}
 use Rattle.bytes_le.proofs.Parts.{last-width, part-length, written-part}

@@ -1,5 +1,4 @@
 -- `castlist_cases::show` meets its contract: the listing lies within the buffer that it is written from.
--- Assumes nothing.
 use Rattle.listing.proofs.Written.{listing-within, listing-taken}
 use borrow.Author.Needs.{needs}
 use Rattle.castlist_cases.proofs.show.Statement.{statement}

@@ -1,5 +1,4 @@
 -- `chunk::convert` meets its contract: each way out is one of the laws of the checks, and the run is the definition's over all positions.
--- Assumes nothing.
 use mathlib.Core.Path.{_≡_, sym, ap, ap₂, subst, _∙_}
 use mathlib.Core.Bool.{true, _&&_}
 use Prim.Native.Nat.{_/_, _%_, _<_}
@@ -10,9 +9,11 @@ use Rattle.kinds.specs.declared.Answer.{Answer}
 use Rattle.kinds.specs.declared.Answer.the-variants as A
 use Rattle.cast_spec.specs.Chunk.{Inputs, inputs, codesListed, mapWhole, bytesWhole, sw, dw}
 use Rattle.cast_spec.specs.Demand3.{Contract}
-use Rattle.chunk.specs.Run.{settingsFor, settingsBy, RunIn, Ran}
+use Rattle.chunk.specs.Run.{settingsFor, settingsBy, RunReady, Ran}
 use Rattle.chunk.specs.declared.Settings.{Settings}
-use Rattle.chunk.proofs.Exits.{width-pos, listed-codes, unknown, broken-map, broken-element, mismatch, run-asks, run-whole}
+use Rattle.cast_spec.proofs.Widths.{width-pos}
+use Rattle.cast_spec.proofs.Refusals.{unknown, broken-map, broken-element, mismatch}
+use Rattle.chunk.proofs.Exits.{listed-codes, run-asks, run-whole}
 use borrow.Author.Needs.{needs}
 use borrow.Author.Tests.{not-true, not-false}
 use Rattle.chunk.proofs.convert.Statement.{statement}
@@ -110,7 +111,7 @@ run-requires c κs =
     let e = u .before in
     let a = start (e .before) .args in
     let k = counts (c .before .before) in
-    subst (λ (s : Settings). RunIn s (now (a .keys)) (now (a .targets)) (now (a .src)) (now (a .dst)) 0 (length (now (a .src)) / s .sw)) (sym (is-settings u))
+    subst (λ (s : Settings). RunReady s (now (a .keys)) (now (a .targets)) (now (a .src)) (now (a .dst)) 0 (length (now (a .src)) / s .sw)) (sym (is-settings u))
     (run-asks (given (e .before)) (listed e) (map-whole m) (bytes-whole b) (sym (k .0) ∙ same-counts (c .before) ∙ k .1))
 
 returns-5 : tie.Need-returns-5

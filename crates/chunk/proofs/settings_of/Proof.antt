@@ -1,16 +1,16 @@
--- `chunk::settings_of` meets its contract: the rows' widths are those of the kinds.
--- Assumes nothing.
+-- `chunk::settings_of` meets its contract: the rows' formats and widths are those of the kinds.
 use mathlib.Core.Path.{sym, subst}
 use Prim.Native.Nat.{ℕ, _<_}
-use Rattle.kinds.specs.Codes.{kindOf}
-use Rattle.mapping.proofs.Codes.{row-width}
-use Rattle.chunk.proofs.Exits.{width-pos, settings-are}
 use borrow.Author.Needs.{needs}
+use Rattle.kinds.specs.Codes.{kindOf}
+use Rattle.kinds.proofs.Listed.{row-width}
+use Rattle.cast_spec.proofs.Widths.{width-pos}
+use Rattle.chunk.proofs.Exits.{settings-are}
 use Rattle.chunk.proofs.settings_of.Statement.{statement}
 use Rattle.chunk.proofs.settings_of.Tie as tie
 
-div-t11 : tie.Need-div-t11
-div-t11 c =
+div-t13 : tie.Need-div-t13
+div-t13 c =
     let x = c .before .before .before .before .before in
     let a = x .before .args in
     subst (λ (w : ℕ). 0 < w) (sym (row-width (kindOf (a .from)) (x .row-of .result) (x .row-of .ensures))) (width-pos (a .from) (x .before .pre .0))
@@ -19,11 +19,11 @@ returns : tie.Need-returns
 returns c =
     let x = c .before .before .before .before .before in
     let y = c .before .before .before .before .row-of2 in
-    let k = c .before .before .before .class-of in
+    let k = c .before .before .before .route-of in
     let r = c .before .before .rounding-of in
     let g = c .before .range-of in
     let a = x .before .args in
     settings-are (a .from) (a .to) (a .rounding) (a .range) (a .keys) (k .result) (x .row-of .result) (y .result) (r .result) (g .result) (k .ensures) (x .row-of .ensures) (y .ensures) (r .ensures) (g .ensures)
 
 pub settings-of-spec : {M : Type 1} → statement M
-settings-of-spec = tie.close (tie.spec (λ c κs. search needs) (λ c κs. search needs) (λ c κs. search needs) (λ c κs. search needs) (λ c κs. search needs) div-t11 returns)
+settings-of-spec = tie.close (tie.spec (λ c κs. search needs) (λ c κs. search needs) (λ c κs. search needs) (λ c κs. search needs) (λ c κs. search needs) div-t13 returns)

@@ -1,5 +1,4 @@
 -- `chunk::whole_elements` meets its contract: each way's tests are those of the definition.
--- Assumes nothing.
 use borrow.Author.Tests.{eq-eqb, ne-eqb}
 use borrow.Author.Needs.{needs}
 use Rattle.chunk.proofs.whole_elements.Statement.{statement}

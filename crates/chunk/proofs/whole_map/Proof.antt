@@ -1,5 +1,4 @@
 -- `chunk::whole_map` meets its contract: whole elements first, and then as many.
--- Assumes nothing.
 use mathlib.Core.Path.{sym, _∙_}
 use borrow.Author.Needs.{needs}
 use Rattle.chunk.proofs.whole_map.Statement.{statement}

@@ -1,5 +1,4 @@
--- `element::clamp` meets its contract: 2^64 or more lies past the end.
--- Assumes nothing.
+-- `element::clamp` meets its contract: a magnitude that exceeds 64 bits lies past the end.
 use mathlib.Core.Path.{sym, ap, _∙_}
 use mathlib.Core.Bool.{Bool, cond}
 use Prim.Native.Nat.{min}

@@ -1,5 +1,4 @@
 -- `element::end_magnitude` meets its contract: the row gives both ends.
--- Assumes nothing.
 use mathlib.Core.Logic.{⊎-elim, inl, inr}
 use Rattle.element.proofs.Range.{end-is, raised-fits}
 use borrow.Author.Needs.{needs}

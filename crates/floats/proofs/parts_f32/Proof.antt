@@ -1,5 +1,4 @@
 -- `floats::parts_f32` meets its contract: shifts and masks are quotients and remainders of powers of two.
--- Assumes nothing.
 use Prim.Native.Nat.{_/_, _^_}
 use native.Mathlib.Omega.{arith}
 use lib.Bits.{mask-lt}

@@ -1,5 +1,4 @@
 -- `floats::parts_f64` meets its contract: shifts and masks are quotients and remainders of powers of two.
--- Assumes nothing.
 use native.Mathlib.Omega.{arith}
 use Rattle.floats.proofs.Fields.{parts-is}
 use Rattle.floats.proofs.parts_f64.Statement.{statement}

@@ -1,5 +1,4 @@
 -- `integers::rounds_up` meets its contract: each arm's test is the one by which its rule steps up.
--- Assumes nothing.
 use mathlib.Core.Path.{_≡_}
 use mathlib.Core.Bool.{true, false}
 use borrow.Author.Needs.{needs}

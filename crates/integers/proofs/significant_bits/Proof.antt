@@ -1,5 +1,4 @@
 -- `integers::significant_bits` meets its contract: leading zeros and significant bits make 64.
--- Assumes nothing.
 use native.Mathlib.Omega.{arith}
 use lib.Count.{leading-le}
 use Rattle.integers.proofs.Digits.{leading-size}

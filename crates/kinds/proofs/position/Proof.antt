@@ -1,5 +1,4 @@
 -- `kinds::position` meets its contract.
--- Assumes nothing.
 use mathlib.Core.Path.{sym, ap}
 use Rattle.kinds.specs.Answer.{positionOf}
 use borrow.Author.Needs.{needs}

@@ -1,5 +1,4 @@
 -- `kinds::range_of` meets its contract.
--- Assumes nothing.
 use mathlib.Core.Path.{_≡_, refl}
 use Prim.Native.Nat.{ℕ, zero, suc}
 use Rattle.kinds.specs.Codes.{rangeOf}

@@ -1,5 +1,4 @@
 -- `kinds::rounding_of` meets its contract.
--- Assumes nothing.
 use mathlib.Core.Path.{_≡_, refl}
 use Prim.Native.Nat.{ℕ, zero, suc}
 use Rattle.grid.specs.declared.RoundingMode.the-variants.{NearestAway}

@@ -1,5 +1,4 @@
 -- `kinds::row_of` meets its contract: the table is the rule's ten rows, which antt computes at once.
--- Assumes nothing.
 use mathlib.Core.Path.{refl}
 use Prim.Native.Nat.{ℕ}
 use lib.Ieee.{size}
@@ -9,7 +8,7 @@ use Rattle.patterns.specs.Float.{bitsMag}
 use Rattle.patterns.specs.Value.{valueOf}
 use Rattle.patterns.specs.Pattern.{patternOf}
 use Rattle.kinds.specs.Codes.{kindOf}
-use Rattle.kinds.specs.Row.{rowOf}
+use Rattle.kinds.specs.Row.{formatOf, rowOf}
 use Rattle.kinds.specs.declared.KindRow.{KindRow}
 use Rattle.kinds.proofs.Table.{row}
 use Rattle.kinds.proofs.row_of.Statement.{statement}
@@ -19,7 +18,7 @@ abbrev rule : ℕ → KindRow
 rule code = rowOf (kindOf code)
 
 returns : tie.Need-returns
-unfolding rowOf valueOf patternOf pick bitsMag size
+unfolding formatOf valueOf patternOf pick bitsMag size
 returns c = row rule 10 _ _ refl (c .before .args .code) (c .before .pre)
 
 pub row-of-spec : {M : Type 1} → statement M

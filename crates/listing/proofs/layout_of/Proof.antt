@@ -1,5 +1,4 @@
 -- `listing::layout_of` meets its contract: the widths are those of the rows, and the entry count is two bytes.
--- Assumes nothing.
 use Prim.Native.Nat.{_*_, _≤_}
 use native.Mathlib.Omega.{arith}
 use denote.Ref.{now}

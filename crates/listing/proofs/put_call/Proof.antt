@@ -1,5 +1,4 @@
 -- `listing::put_call` meets its contract: the report of the call into the lent bytes is that of the call into zeros.
--- Assumes nothing.
 use native.Mathlib.Omega.{arith}
 use denote.Ref.{now}
 use Rattle.listing.proofs.Calls.{row-some, size-most, size-within, size-lent, size-back, size-relent, report-asks, call-reported}

@@ -1,5 +1,4 @@
 -- `listing::put_listing` meets its contract: a refusal's line, or the call on the parts of an input that none meets.
--- Assumes nothing.
 use mathlib.Core.Path.{_≡_, sym, _∙_}
 use mathlib.Core.List.{List}
 use Prim.Native.Nat.{ℕ}

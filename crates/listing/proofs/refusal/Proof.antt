@@ -1,5 +1,4 @@
 -- `listing::refusal` meets its contract: each way out is a case of the definition.
--- Assumes nothing.
 use mathlib.Core.Path.{_≡_, sym, ap, _∙_}
 use mathlib.Core.Bool.{true}
 use mathlib.Core.List.{List}

@@ -1,5 +1,4 @@
 -- `neighbours::next_down_f32` meets its contract: the exclusive or with the sign's bit gives the number of the other sign.
--- Assumes nothing.
 use native.Mathlib.Omega.{arith}
 use borrow.Author.Needs.{needs}
 use Rattle.neighbours.proofs.Mirror.{turned}

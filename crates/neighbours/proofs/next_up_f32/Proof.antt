@@ -1,5 +1,4 @@
 -- `neighbours::next_up_f32` meets its contract: the mask takes the sign's bit away.
--- Assumes nothing.
 use mathlib.Core.Path.{_∙_}
 use native.Mathlib.Omega.{arith}
 use lib.Dec.{lit<, lit≤}
@@ -8,4 +7,4 @@ use Rattle.neighbours.proofs.next_up_f32.Statement.{statement}
 use Rattle.neighbours.proofs.next_up_f32.Tie as tie
 
 pub next-up-f32-spec : {M : Type 1} → statement M
-next-up-f32-spec = tie.close (tie.spec (λ c κs. record { some = lit< tt; most = lit≤ tt; fits = omega arith }) (λ c. record { fits = c .next-up .ensures .1 }) (λ c. c .next-up .ensures .0 ∙ masked 24 8 (c .before .args .b)))
+next-up-f32-spec = tie.close (tie.spec (λ c κs. record { positive = lit< tt; within-64-bits = lit≤ tt; fits = omega arith }) (λ c. record { fits = c .next-up .ensures .1 }) (λ c. c .next-up .ensures .0 ∙ masked 24 8 (c .before .args .b)))

@@ -1,5 +1,4 @@
 -- `polskrea::fields` meets its contract: each arm has its answer's words.
--- Assumes nothing.
 use mathlib.Core.List.{[], _∷_}
 use mathlib.Core.Path.{_≡_, sym, ap, _∙_}
 use Prim.Native.Nat.{ℕ}

@@ -1,5 +1,4 @@
 -- `replay::holds` is safe: the parts of a case lie within its body.
--- Assumes nothing.
 use native.Mathlib.Omega.{arith}
 use Rattle.replay.proofs.Parts.{as-many}
 use borrow.Author.Needs.{needs}

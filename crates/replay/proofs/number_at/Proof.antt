@@ -1,5 +1,4 @@
 -- `replay::number_at` is safe and ends: the measure is the number of bytes that are left.
--- Assumes nothing.
 use borrow.Author.Needs.{needs}
 use Rattle.replay.proofs.number_at.Statement.{statement}
 use Rattle.replay.proofs.number_at.Tie as tie

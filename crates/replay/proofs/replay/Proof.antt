@@ -1,5 +1,4 @@
 -- `replay::replay` is safe and ends: the measure is the number of turns that are left.
--- Assumes nothing.
 use borrow.Author.Needs.{needs}
 use Rattle.replay.proofs.replay.Statement.{statement}
 use Rattle.replay.proofs.replay.Tie as tie

@@ -1,5 +1,4 @@
 -- `replay::replay_case` is safe: four parts of at most 256 bytes lie within the space that a body has.
--- Assumes nothing.
 use native.Mathlib.Omega.{arith}
 use Rattle.replay.proofs.Parts.{as-many, three-of-four}
 use borrow.Author.Needs.{needs}

@@ -1,5 +1,4 @@
 -- `replay::same_elements` is safe and ends: the measure is the number of bytes that are left.
--- Assumes nothing.
 use Prim.Native.Nat.{_<_}
 use borrow.Author.Needs.{needs}
 use Rattle.replay.proofs.same_elements.Statement.{statement}

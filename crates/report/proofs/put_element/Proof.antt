@@ -1,5 +1,4 @@
 -- `report::put_element` meets its contract: the digits of the pattern, and a line's end.
--- Assumes nothing.
 use lib.ListN.{take, drop}
 use denote.Ref.{now}
 use Rattle.bytes_le.specs.Bytes.{fromLe}
@@ -13,7 +12,7 @@ put-byte-requires c κs =
     let x = c .before .before .before in
     let t = c .before .before .before .before .before .before .before .before in
     let a = t .args in
-    line-room (now (a .out)) (a .at) (a .w) (x .before .before .read-le .result) (x .put-digits .result) (x .put-digits .last .0) (t .pre .room) (x .put-digits .ensures)
+    line-room (now (a .out)) (a .at) (a .w) (x .before .before .read-le .result) (x .put-digits .result) (x .put-digits .last .0) (t .pre .fits) (x .put-digits .ensures)
 
 returns : tie.Need-returns
 returns c =

@@ -1,5 +1,4 @@
 -- `report::put_elements` meets its contract: the lines passed are written.
--- Assumes nothing.
 use Prim.Native.Nat.{_-_}
 use native.Mathlib.Omega.{arith}
 use denote.Ref.{now}

@@ -1,5 +1,4 @@
 -- `report::put_ok` meets its contract: a word, a number and a line's end, one after the other.
--- Assumes nothing.
 use denote.Ref.{now}
 use Rattle.report.proofs.Lines.{ok-room, ok-told}
 use borrow.Author.Needs.{needs}

@@ -1,5 +1,4 @@
 -- `report::put_refused` meets its contract: a word and a number, then a line's end or the position before it.
--- Assumes nothing.
 use mathlib.Core.List.{[]}
 use native.Mathlib.Omega.{arith}
 use denote.Ref.{now}

@@ -1,5 +1,4 @@
 -- `report::put_report` meets its contract: the first line, then the lines of the converted elements.
--- Assumes nothing.
 use denote.Ref.{now}
 use Rattle.report.proofs.Report.{ok-lines-ask, ok-report, refused-asks, refused-lines-ask, refused-report}
 use borrow.Author.Needs.{needs}

@@ -1,5 +1,4 @@
 -- `select::least` meets its contract: the second number is chosen where it is less.
--- Assumes nothing.
 use mathlib.Core.Path.{_∙_}
 use Rattle.select.proofs.Masked.{lesser}
 use borrow.Author.Needs.{needs}

@@ -1,5 +1,4 @@
 -- `text::decimal_places` meets its contract: each branch lies between two powers of ten.
--- Assumes nothing.
 use native.Mathlib.Omega.{arith}
 use Rattle.text.proofs.Numbers.{one-place, places-are}
 use Rattle.text.proofs.decimal_places.Statement.{statement}

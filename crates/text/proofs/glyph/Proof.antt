@@ -1,5 +1,4 @@
 -- `text::glyph` meets its contract: each branch is a case of the definition.
--- Assumes nothing.
 use borrow.Author.Tests.{lt-ltb, le-ltb}
 use borrow.Author.Needs.{needs}
 use Rattle.text.proofs.glyph.Statement.{statement}

@@ -1,5 +1,4 @@
 -- `text::put_byte` meets its contract: one byte is set.
--- Assumes nothing.
 use denote.Ref.{now}
 use native.Mathlib.Omega.{arith}
 use Rattle.text.proofs.Writes.{wrote-one}

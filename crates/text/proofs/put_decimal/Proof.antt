@@ -1,5 +1,4 @@
 -- `text::put_decimal` meets its contract: the digits are as many as the number takes.
--- Assumes nothing.
 use native.Mathlib.Omega.{arith}
 use denote.Ref.{now}
 use Rattle.text.proofs.Numbers.{decimal-room, decimal-by}

@@ -1,5 +1,4 @@
 -- `text::put_digits` meets its contract: the digits passed stand before the end.
--- Assumes nothing.
 use Prim.Native.Nat.{_-_}
 use native.Mathlib.Omega.{arith}
 use native.Mathlib.Nat.{mod-lt, lt-of-lt-of-le}

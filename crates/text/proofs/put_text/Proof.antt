@@ -1,5 +1,4 @@
 -- `text::put_text` meets its contract: the bytes passed are written.
--- Assumes nothing.
 use Prim.Native.Nat.{_-_}
 use native.Mathlib.Omega.{arith}
 use lib.ListN.{length}

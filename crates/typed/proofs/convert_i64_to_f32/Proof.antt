@@ -1,5 +1,4 @@
--- `typed::convert_i64_to_f32` meets its contract: the conversion of every pair, at this pair's types.
--- Assumes nothing.
+-- `typed::convert_i64_to_f32` meets its contract: the typed call of every pair, at this pair's types.
 use contract.Running.{givenOf, tables, tablesOf}
 use denote.Triple.Spec.{tripleOf}
 use denote.Triple.Table.{entered, cited}
@@ -11,7 +10,7 @@ use Rattle.typed.proofs.answer_of.Symbol as answer
 use Rattle.typed.proofs.convert_i64_to_f32.Code as code
 use Rattle.typed.proofs.step_i64_f32.Symbol as step
 use Rattle.typed.proofs.Pairs.{i64-to-f32}
-use Rattle.typed.proofs.Conversions.{Start, LookUp, Step, AnswerOf, meets}
+use Rattle.typed.proofs.Conversions.{Start, LookUp, Step, AnswerOf, typed-call-meets-contract}
 use Rattle.typed.proofs.answer_of.Met as answer-thm
 use Rattle.typed.proofs.start_i64.Met as start-thm
 use Rattle.typed.proofs.convert_i64_to_f32.Statement as stated
@@ -23,7 +22,7 @@ unfolding code.routine tablesOf
 convert-i64-to-f32-spec 𝓤 H 𝓜 𝓖 𝓡 =
     entered 𝓤 H (tripleOf 𝓤 H (𝓖 .A) convert.signature (convert.spec 𝓤 H (𝓖 .A) (𝓜 .mem) (𝓡 .run)))
     (tables 𝓤 H 𝓜 𝓡 code.env .C) (tables 𝓤 H 𝓜 𝓡 code.env .Λ) name code.function (code.unfolded 𝓤 H 𝓜 𝓡)
-    (meets i64-to-f32 start.name lookup.name step.name answer.name 𝓤 H (𝓖 .A) (givenOf 𝓤 H 𝓜 𝓖) (tablesOf 𝓤 H 𝓜 (tables 𝓤 H 𝓜 𝓡 code.env))
+    (typed-call-meets-contract i64-to-f32 start.name lookup.name step.name answer.name 𝓤 H (𝓖 .A) (givenOf 𝓤 H 𝓜 𝓖) (tablesOf 𝓤 H 𝓜 (tables 𝓤 H 𝓜 𝓡 code.env))
     (cited 𝓤 H (Start i64-to-f32 𝓤 H (𝓖 .A)) 𝓜 𝓡 code.env start.name start.routine code.calls-typed·start-i64 (start-thm.met 𝓤 H 𝓜 𝓖 𝓡))
     (cited 𝓤 H (LookUp i64-to-f32 𝓤 H (𝓖 .A)) 𝓜 𝓡 code.env lookup.name lookup.routine code.calls-typed-entries·lookup-i64-f32 (lookup-thm.met 𝓤 H 𝓜 𝓖 𝓡))
     (cited 𝓤 H (Step i64-to-f32 𝓤 H (𝓖 .A)) 𝓜 𝓡 code.env step.name step.routine code.calls-typed·step-i64-f32 (step-thm.met 𝓤 H 𝓜 𝓖 𝓡))

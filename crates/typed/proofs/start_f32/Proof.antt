@@ -1,17 +1,19 @@
 -- `typed::start_f32` meets its contract: the checks, then the first element.
--- Assumes nothing.
 use denote.Ref.{now}
 use borrow.Author.Needs.{needs}
 use Rattle.typed_values.specs.Bits.{f32Bits}
-use Rattle.typed.proofs.Parts.{starts, refuses-start}
+use Rattle.typed.proofs.States.{starts, refuses-start}
 use Rattle.typed.proofs.start_f32.Statement.{statement}
 use Rattle.typed.proofs.start_f32.Tie as tie
 
 returns : tie.Need-returns
-returns c = let a = c .before .before .before .before .args in starts f32Bits (now (a .src)) (a .room) (a .rounding) (a .range) (c .before .before .check .result) (c .before .before .check .ensures) (c .before .if1 .taken) (c .state-f32 .result) (c .state-f32 .ensures)
+returns c =
+    let k = c .before .before in
+    let a = k .before .before .args in
+    starts f32Bits (now (a .src)) (a .room) (a .rounding) (a .range) (k .check .result) (k .check .ensures) (c .before .if1 .taken) (c .state-f32 .result) (c .state-f32 .ensures)
 
 returns-2 : tie.Need-returns-2
-returns-2 c = let a = c .before .before .before .args in refuses-start f32Bits (now (a .src)) (a .room) (a .rounding) (a .range) (c .before .check .result) (c .before .check .ensures) (c .if1 .left)
+returns-2 c = let k = c .before in let a = k .before .before .args in refuses-start f32Bits (now (a .src)) (a .room) (a .rounding) (a .range) (k .check .result) (k .check .ensures) (c .if1 .left)
 
 pub start-f32-spec : {M : Type 1} → statement M
 start-f32-spec = tie.close (tie.spec (λ c κs. search needs) (λ c κs. search needs) returns returns-2)

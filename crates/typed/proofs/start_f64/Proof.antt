@@ -1,17 +1,19 @@
 -- `typed::start_f64` meets its contract: the checks, then the first element.
--- Assumes nothing.
 use denote.Ref.{now}
 use borrow.Author.Needs.{needs}
 use Rattle.typed_values.specs.Bits.{f64Bits}
-use Rattle.typed.proofs.Parts.{starts, refuses-start}
+use Rattle.typed.proofs.States.{starts, refuses-start}
 use Rattle.typed.proofs.start_f64.Statement.{statement}
 use Rattle.typed.proofs.start_f64.Tie as tie
 
 returns : tie.Need-returns
-returns c = let a = c .before .before .before .before .args in starts f64Bits (now (a .src)) (a .room) (a .rounding) (a .range) (c .before .before .check .result) (c .before .before .check .ensures) (c .before .if1 .taken) (c .state-f64 .result) (c .state-f64 .ensures)
+returns c =
+    let k = c .before .before in
+    let a = k .before .before .args in
+    starts f64Bits (now (a .src)) (a .room) (a .rounding) (a .range) (k .check .result) (k .check .ensures) (c .before .if1 .taken) (c .state-f64 .result) (c .state-f64 .ensures)
 
 returns-2 : tie.Need-returns-2
-returns-2 c = let a = c .before .before .before .args in refuses-start f64Bits (now (a .src)) (a .room) (a .rounding) (a .range) (c .before .check .result) (c .before .check .ensures) (c .if1 .left)
+returns-2 c = let k = c .before in let a = k .before .before .args in refuses-start f64Bits (now (a .src)) (a .room) (a .rounding) (a .range) (k .check .result) (k .check .ensures) (c .if1 .left)
 
 pub start-f64-spec : {M : Type 1} → statement M
 start-f64-spec = tie.close (tie.spec (λ c κs. search needs) (λ c κs. search needs) returns returns-2)

@@ -1,20 +1,31 @@
 -- `typed::step_f32_u8` meets its contract: the element is stored, or refused.
--- Assumes nothing.
 use mathlib.Core.List.{map}
 use denote.Ref.{now}
 use borrow.Author.Needs.{needs}
-use Rattle.chunk.proofs.Elements.{refuses}
 use Rattle.typed_values.specs.Bits.{u8Of, f32Bits}
-use Rattle.typed.proofs.step_f32_u8.Tie as tie
-use Rattle.typed.proofs.Parts.{stored, refused}
-use Rattle.typed.specs.Loop.{outcomeFor}
+use Rattle.kinds.proofs.Constants.{u8-row}
+use Rattle.typed.proofs.Formats.{f32-pattern}
+use Rattle.typed.proofs.Steps.{stored, refused}
 use Rattle.typed.proofs.step_f32_u8.Statement.{statement}
+use Rattle.typed.proofs.step_f32_u8.Tie as tie
 
 returns : tie.Need-returns
-returns c = let a = c .before .before .before .before .before .before .before .before .before .args in stored u8Of (map f32Bits (now (a .src))) (now (a .dst)) (a .s .at) (outcomeFor 8 4 (a .s .x) (a .f) (a .rounding) (a .range)) _ (c .before .before .before .before .before .outcome-float-to-int .ensures) (c .state-f32 .result) (c .before .before .before .o .given .0 .0) (c .before .before .before .o .given .1) (c .before .u8-of .result) (c .before .u8-of .ensures) (c .state-f32 .ensures)
+returns c =
+    let k = c .before .before .before in
+    let t = k .before .before in
+    let a = t .before .before .before .args in
+    stored u8Of (map f32Bits (now (a .src))) (now (a .dst)) 8 4 (a .s) (a .f) (t .step-float-to-int .result) (t .step-float-to-int .ensures) (c .state-f32 .result) (k .fit .given .0 .0) (k .fit .given .1) (c .before .u8-of .result) (c .before .u8-of .ensures) (c .state-f32 .ensures)
 
 returns-2 : tie.Need-returns-2
-returns-2 c = let a = c .before .before .before .before .before .before .args in refused u8Of (map f32Bits (now (a .src))) (now (a .dst)) (a .s .at) (outcomeFor 8 4 (a .s .x) (a .f) (a .rounding) (a .range)) (c .before .before .outcome-float-to-int .result) (c .before .before .outcome-float-to-int .ensures) (c .refuse .result) (refuses (c .before .before .outcome-float-to-int .result) (c .before .match .keys2)) (c .refuse .ensures)
+returns-2 c =
+    let m = c .before .before in
+    let t = m .before in
+    let a = t .before .before .before .args in
+    refused u8Of (map f32Bits (now (a .src))) (now (a .dst)) 8 4 (a .s) (a .f) (t .step-float-to-int .result) (t .step-float-to-int .ensures) (c .refuse .result) (m .match .keys2) (c .before .outcome .result) (c .before .outcome .ensures) (c .refuse .ensures)
 
 pub step-f32-u8-spec : {M : Type 1} → statement M
-step-f32-u8-spec = tie.close (tie.spec (λ c κs. search needs) (λ c κs. search needs) (λ c. search needs) (λ c κs. search needs) (λ c. search needs) (λ c. search needs) (λ c κs. search needs) (λ c. search needs) returns (λ c κs. search needs) returns-2)
+step-f32-u8-spec = tie.close (tie.spec
+    (λ c κs. (f32-pattern _ (c .before .before .pre .0), u8-row))
+    (λ c. search needs) (λ c κs. search needs) (λ c. search needs) (λ c. search needs) (λ c κs. search needs) (λ c. search needs) returns
+    (λ c κs. (f32-pattern _ (c .before .before .before .before .pre .0), u8-row))
+    (λ c κs. search needs) returns-2)

@@ -1,5 +1,4 @@
 -- `typed_entries::found_f64_i32` meets its contract: the target's bits.
--- Assumes nothing.
 use mathlib.Core.Path.{_≡_, ap, _∙_}
 use mir.Val.{toZ, ofZ}
 use mir.Syntax.{w32}

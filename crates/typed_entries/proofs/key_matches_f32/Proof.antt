@@ -1,5 +1,4 @@
 -- `typed_entries::key_matches_f32` meets its contract: the key's pattern against x.
--- Assumes nothing.
 use mathlib.Core.Path.{sym, subst, ap, _∙_}
 use Prim.Native.Nat.{_^_, _<_, ℕ}
 use lib.Ieee.{binary32}

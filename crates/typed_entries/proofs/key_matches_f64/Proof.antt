@@ -1,5 +1,4 @@
 -- `typed_entries::key_matches_f64` meets its contract: the key's pattern against x.
--- Assumes nothing.
 use mathlib.Core.Path.{ap, _∙_}
 use Prim.Native.Nat.{ℕ}
 use borrow.Author.Needs.{needs}

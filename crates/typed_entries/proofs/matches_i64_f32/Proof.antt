@@ -1,5 +1,4 @@
 -- `typed_entries::matches_i64_f32` meets its contract: its key's.
--- Assumes nothing.
 use mathlib.Core.Path.{_≡_, ap, _∙_}
 use lib.IntN.{ℤ}
 use mir.Val.{toZ, ofZ}

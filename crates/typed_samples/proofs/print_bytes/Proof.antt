@@ -1,5 +1,4 @@
 -- `typed_samples::print_bytes` has nothing to keep: the measure is what is left of the bytes.
--- Assumes nothing.
 use Prim.Native.Nat.{_-_, _≤_}
 use borrow.Author.Needs.{needs}
 use Rattle.typed_samples.proofs.print_bytes.Statement.{statement}

@@ -1,5 +1,4 @@
 -- `typed_samples::put_long` is safe: eight bytes fit at the place.
--- Assumes nothing.
 use mathlib.Core.Path.{refl}
 use mathlib.Core.Logic.{inr}
 use borrow.Author.Needs.{needs}

@@ -1,5 +1,4 @@
 -- `typed_samples::put_word` is safe: four bytes fit at the place.
--- Assumes nothing.
 use mathlib.Core.Path.{refl}
 use mathlib.Core.Logic.{inl, inr}
 use borrow.Author.Needs.{needs}

@@ -1,5 +1,4 @@
 -- `typed_samples::same_bytes` is safe and ends: the two lengths are one, and the measure is what is left of the bytes.
--- Assumes nothing.
 use mathlib.Core.Path.{_≡_}
 use Prim.Native.Nat.{_-_, _≤_}
 use borrow.Author.Needs.{needs}

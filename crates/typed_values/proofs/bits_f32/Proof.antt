@@ -1,5 +1,4 @@
 -- `typed_values::bits_f32` meets its contract: the quiet NaN's pattern, or the float's own.
--- Assumes nothing.
 use mathlib.Core.Path.{sym, subst}
 use Prim.Native.Nat.{ℕ, _^_, _<_}
 use native.Mathlib.Omega.{arith}

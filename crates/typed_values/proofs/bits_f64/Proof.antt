@@ -1,5 +1,4 @@
 -- `typed_values::bits_f64` meets its contract: the quiet NaN's pattern, or the float's own.
--- Assumes nothing.
 use lib.Ieee.{binary64, fits, toBits}
 use Rattle.typed_values.proofs.bits_f64.Tie as tie
 use Rattle.typed_values.proofs.Patterns.{no-nan, nan-bits, held-bits}

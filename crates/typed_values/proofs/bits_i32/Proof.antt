@@ -1,5 +1,4 @@
 -- `typed_values::bits_i32` meets its contract: by the sign, the cast's bits or those of -1 - z turned over.
--- Assumes nothing.
 use mathlib.Core.Path.{refl}
 use lib.Dec.{lit≤}
 use mir.Syntax.{w32}

@@ -1,5 +1,4 @@
 -- `typed_values::f32_of` meets its contract: a NaN, or the float of the bits.
--- Assumes nothing.
 use Prim.Native.Nat.{_%_, _^_}
 use lib.Ieee.{div, ofBits}
 use borrow.Author.Needs.{needs}

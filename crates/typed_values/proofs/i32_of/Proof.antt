@@ -1,5 +1,4 @@
 -- `typed_values::i32_of` meets its contract: by the highest of the 32 bits.
--- Assumes nothing.
 use borrow.Author.Needs.{needs}
 use Rattle.typed_values.proofs.i32_of.Statement.{statement}
 use Rattle.typed_values.proofs.Signed.{upper, lower-fits, lower}

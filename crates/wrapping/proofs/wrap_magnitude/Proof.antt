@@ -1,5 +1,4 @@
 -- `wrapping::wrap_magnitude` meets its contract: a wrapped difference has the residue's lowest bits.
--- Assumes nothing.
 use mathlib.Core.Path.{ap, _∙_}
 use Prim.Native.Nat.{ℕ, _-_, _/_, _^_}
 use lib.Bits.{bitAnd}

@@ -149,7 +149,7 @@ typed!(f32_u8, polskrea_convert_f32_to_u8, f32, u8);
 typed!(f64_f32, polskrea_convert_f64_to_f32, f64, f32);
 typed!(i64_f32, polskrea_convert_i64_to_f32, i64, f32);
 
-/// The typed entry of two kinds, where there is one.
+/// The typed call of two kinds, where there is one.
 fn typed_entry(from: u8, to: u8) -> Option<Original> {
     match (from, to) {
         (9, 4) => Some(f64_u8),
@@ -257,7 +257,7 @@ fn rows(n: usize) -> Vec<(Row, Original)> {
 
 fn main() {
     let repeats: usize = std::env::args().nth(1).map_or(15, |a| a.parse().expect("a number of repeats"));
-    println!("ns per element, best of {repeats} repeats; ratio is ours to the original's; typed is the typed entry, where there is one");
+    println!("ns per element, best of {repeats} repeats; ratio is ours to the original's; typed is the typed call, where there is one");
     println!("| conversion | data | original 4,096 | ours 4,096 | ratio | typed 4,096 | original 1,000,000 | ours 1,000,000 | ratio | typed 1,000,000 |");
     println!("|---|---|---|---|---|---|---|---|---|---|");
     for ((small, original), (large, _)) in rows(4096).into_iter().zip(rows(1_000_000)) {

@@ -1,0 +1,29 @@
+-- The fields of a refusal: an element's f64 is its pattern's, and the ends are the row's.
+use mathlib.Core.Path.{_≡_, refl, sym, ap₂, subst, _∙_}
+use mathlib.Core.Logic.{⊎-elim}
+use Prim.Native.Nat.{ℕ}
+use Rattle.patterns.specs.Pattern.{asF64}
+use Rattle.kinds.specs.Row.{floatOf, integerOf, kindIn, FloatRow, IntegerRow}
+use Rattle.kinds.specs.declared.FloatFormat.{FloatFormat}
+use Rattle.kinds.specs.declared.IntegerFormat.{IntegerFormat}
+use Rattle.kinds.specs.declared.Format.{Format}
+use Rattle.kinds.specs.declared.Format.the-variants.{Integer, Float}
+use Rattle.kinds.specs.declared.Outcome.the-variants.{FloatOutOfRange, OutOfRange}
+use Rattle.element.specs.Convert.{CanonicalElement, FormatPattern, elementF64, elementOf, pastRange}
+use Rattle.element.proofs.FloatForms.{row-formed}
+use Rattle.element.proofs.Integers.{as-f64-is}
+
+pub canonical-of : (f : Format) (b : ℕ) → FormatPattern b f → CanonicalElement (elementOf f b)
+canonical-of (Integer f) b h = tt
+canonical-of (Float f) b h = row-formed f (h .row) b (h .fits) .canonical
+
+pub value-of : (f : Format) (b : ℕ) → FormatPattern b f → elementF64 (elementOf f b) ≡ asF64 (kindIn f) b
+unfolding elementF64
+value-of (Integer f) b h = as-f64-is b (f .signed) (f .bits) h
+value-of (Float f) b h = row-formed f (h .row) b (h .fits) .written
+
+pub integer-ends : (f : IntegerFormat) → IntegerRow f → (v : ℕ) → OutOfRange v (f .lowest) (f .highest) ≡ pastRange (integerOf f) v
+integer-ends f row v = ap₂ (OutOfRange v) (row .low) (row .high)
+
+pub float-ends : (f : FloatFormat) → FloatRow f → (v : ℕ) → FloatOutOfRange v (f .lowest) (f .highest) ≡ pastRange (floatOf f) v
+float-ends f row v = ⊎-elim (λ e. subst (λ (g : FloatFormat). FloatOutOfRange v (g .lowest) (g .highest) ≡ pastRange (floatOf g) v) (sym e) refl) (λ e. subst (λ (g : FloatFormat). FloatOutOfRange v (g .lowest) (g .highest) ≡ pastRange (floatOf g) v) (sym e) refl) row

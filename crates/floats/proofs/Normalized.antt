@@ -1,0 +1,51 @@
+-- A number of at most 53 bits moved up until its highest bit is the 53rd: by how many places, and that it is the same magnitude.
+use mathlib.Core.Path.{_≡_, sym, ap, ap₂, _∙_}
+use Prim.Native.Nat.{ℕ, suc, _+_, _-_, _*_, _%_, _^_, _≤_, _<_}
+use native.Mathlib.Nat.{le-of-eq, le-trans, lt-of-lt-of-le, mod-eq-of-lt, mul-assoc, mul-le-mul-right, zero-mul}
+use native.Mathlib.Omega.{arith}
+use lib.Count.{leadingZeros, leading-top}
+use lib.Pow.{pow-add, pow-mono, shl-lt}
+use Rattle.grid.proofs.Neighbours.{cut}
+use Rattle.floats.specs.Form.{scaledOf}
+use Rattle.floats.specs.declared.Scaled.{Scaled}
+use Rattle.floats.proofs.Forms.{scaled-only}
+
+pub zero-normalized : (a e : ℕ) → a ≡ 0 → record { significand = 0; exponent = 0 } ≡ scaledOf (a * 2 ^ e)
+zero-normalized a e z = scaled-only 0 0 (omega arith) (λ (h : 0 < 0). absurd (omega arith)) ∙ ap scaledOf (zero-mul (2 ^ 0) ∙ sym (ap (λ (n : ℕ). n * 2 ^ e) z ∙ zero-mul (2 ^ e)))
+
+module _ (a e : ℕ) (some : (a ≡ 0 → ⊥)) (small : a < 2 ^ 53) (fine : 53 ≤ e) where
+  abbrev shift : ℕ
+  shift = leadingZeros 64 a - 11
+
+  top : (j : ℕ) × (leadingZeros 64 a + suc j ≡ 64) × (2 ^ j ≤ a) × (a < 2 ^ suc j)
+  top = leading-top 64 a (omega arith) (lt-of-lt-of-le small (pow-mono {i = 53} {j = 64} (omega arith)))
+
+  high : top .0 < 53
+  high = cut (top .0) 53 (λ l. l) (λ (l : 53 ≤ top .0). absurd (omega (arith, top .2, pow-mono {i = 53} l)))
+
+  places : shift + suc (top .0) ≡ 53
+  places = omega (arith, top .1, high)
+
+  pub shift-few : (11 ≤ leadingZeros 64 a) × (leadingZeros 64 a - 11 < 53)
+  shift-few = (omega (arith, top .1, high), omega (arith, places))
+
+  full : 2 ^ 52 ≤ a * 2 ^ shift
+  full = le-trans (le-of-eq (ap (λ (z : ℕ). 2 ^ z) (split (top .0) shift places) ∙ pow-add 2 (top .0) shift)) (mul-le-mul-right (2 ^ shift) (top .2))
+    where
+      split : (j k : ℕ) → k + suc j ≡ 53 → 52 ≡ j + k
+      split j k e = omega arith
+
+  moved-lt : a * 2 ^ shift < 2 ^ 53
+  moved-lt = lt-of-lt-of-le (shl-lt (suc (top .0)) shift (top .3)) (le-of-eq (ap (λ (z : ℕ). 2 ^ z) (join (top .0) shift places)))
+    where
+      join : (j k : ℕ) → k + suc j ≡ 53 → suc j + k ≡ 53
+      join j k e = omega arith
+
+  pub normalized : record { significand = a * 2 ^ (leadingZeros 64 a - 11) % 2 ^ 64; exponent = e - (leadingZeros 64 a - 11) } ≡ scaledOf (a * 2 ^ e)
+  normalized =
+      ap {B = Scaled} (λ (m : ℕ). record { significand = m; exponent = e - shift }) (mod-eq-of-lt (lt-of-lt-of-le moved-lt (pow-mono {i = 53} {j = 64} (omega arith))))
+      ∙ scaled-only (a * 2 ^ shift) (e - shift) moved-lt (λ _. full)
+      ∙ ap scaledOf (mul-assoc a (2 ^ shift) (2 ^ (e - shift)) ∙ ap (λ (z : ℕ). a * z) (sym (pow-add 2 shift (e - shift))) ∙ ap (λ (z : ℕ). a * 2 ^ z) (back shift (shift-few .1)))
+    where
+      back : (k : ℕ) → k < 53 → k + (e - k) ≡ e
+      back k h = omega arith

@@ -1,0 +1,44 @@
+-- `floats::read_f32` meets its contract: each arm has the form of its fields.
+use mathlib.Core.Path.{_≡_, ap, _∙_}
+use Prim.Native.Nat.{ℕ, _+_, _-_, _*_, _%_, _^_}
+use native.Mathlib.Omega.{arith}
+use lib.Bits.{bitAnd, and-mask, mask-lt}
+use lib.Dec.{lit<, lit≤}
+use borrow.Author.Needs.{needs}
+use Rattle.floats.proofs.Fields.{fraction-small, fraction-is}
+use Rattle.floats.proofs.Forms.{subnormal-form, normal-form, special-form, quiet-fraction}
+use Rattle.patterns.specs.Pattern.{quiet}
+use Rattle.floats.proofs.read_f32.Statement.{statement}
+use Rattle.floats.proofs.read_f32.Tie as tie
+
+normalize-requires : tie.Need-normalize-requires
+normalize-requires c κs = let q = c .before .parts-f32 in (omega (arith, fraction-small 24 8 _ (q .ensures) (lit< tt)), lit≤ tt)
+
+add-finite : tie.Need-add-finite
+add-finite c = let q = c .before .before .parts-f32 in record { fits = omega (arith, fraction-small 24 8 _ (q .ensures) (lit< tt)) }
+
+add-infinite-or-nan : tie.Need-add-infinite-or-nan
+add-infinite-or-nan c = let q = c .before .before .parts-f32 in record { fits = omega (arith, mask-lt (q .result .fraction) 22) }
+
+-- "fraction placed at the top, highest fraction bit set"
+nan-fraction : (b t : ℕ) → t ≡ b % 2 ^ 23 → 2 ^ 51 + bitAnd t (2 ^ 22 - 1) * 2 ^ 29 % 2 ^ 64 ≡ quiet 24 53 b
+nan-fraction b t e = ap (λ (z : ℕ). 2 ^ 51 + z * 2 ^ 29 % 2 ^ 64) (and-mask t 22 ∙ ap (λ (z : ℕ). z % 2 ^ 22) e) ∙ omega arith
+
+returns : tie.Need-returns
+returns c =
+    let q = c .before .before .before .parts-f32 in
+    c .finite .ensures ∙ subnormal-form 24 8 925 _ (lit≤ tt) (lit< tt) (q .ensures) _ _ (c .before .before .match .keys1) (c .before .normalize .ensures)
+
+returns-2 : tie.Need-returns-2
+returns-2 c =
+    let q = c .before .before .before .parts-f32 in
+    c .finite2 .ensures ∙ normal-form 24 8 925 _ (lit≤ tt) (lit< tt) (q .ensures) 29 _ _ (omega arith) (omega arith) (omega arith) (omega arith) (omega (arith, fraction-small 24 8 _ (q .ensures) (lit< tt)))
+
+returns-3 : tie.Need-returns-3
+returns-3 c =
+    let q = c .before .before .before .parts-f32 in
+    let b = c .before .before .before .before .args .b in
+    c .infinite-or-nan .ensures ∙ special-form 24 8 925 _ (lit≤ tt) (lit< tt) (q .ensures) _ (omega arith) (nan-fraction b (q .result .fraction) (fraction-is 24 8 _ (q .ensures)) ∙ quiet-fraction 24 8 925 b (λ e. omega arith))
+
+pub read-f32-spec : {M : Type 1} → statement M
+read-f32-spec = tie.close (tie.spec (λ c κs. search needs) normalize-requires (λ c κs. search needs) add-finite (λ c. search needs) (λ c κs. search needs) add-infinite-or-nan (λ c κs. search needs) returns returns-2 returns-3)

@@ -1,0 +1,28 @@
+-- To be believed: a float rounded to a whole number, and an f64's whole part in an integer kind.
+use mathlib.Core.Bool.{false}
+use Prim.Native.Nat.{ℕ}
+use Rattle.grid.specs.Grid.{whole}
+use Rattle.grid.specs.Round.{pick}
+use Rattle.grid.specs.declared.RoundingMode.{RoundingMode}
+use Rattle.grid.specs.declared.RoundingMode.the-variants.{TowardsZero}
+use Rattle.patterns.specs.Kind.{Kind, integer, f64}
+use Rattle.patterns.specs.Value.{Value, nan, inf, num, negative, valueOf}
+use Rattle.patterns.specs.Pattern.{patternOf}
+
+-- "Rounding to a whole number": the pattern of the pick on the whole numbers, of the element's sign. A NaN and an infinity stay.
+abbrev pub roundedFrom : Kind → RoundingMode → ℕ → Value → ℕ
+roundedFrom k r b (num x) = patternOf k (negative k b) (pick (whole 1074) r x)
+roundedFrom k r b (inf neg) = b
+roundedFrom k r b nan = b
+
+abbrev pub roundedOf : Kind → RoundingMode → ℕ → ℕ
+roundedOf k r b = roundedFrom k r b (valueOf k b)
+
+-- the n lowest bits of a number's whole part; 0 where there is no number
+abbrev pub wrappedFrom : ℕ → Value → ℕ
+wrappedFrom n (num x) = patternOf (integer false n) false (pick (whole 1074) TowardsZero x)
+wrappedFrom n (inf neg) = 0
+wrappedFrom n nan = 0
+
+abbrev pub wrappedOf : ℕ → ℕ → ℕ
+wrappedOf n b = wrappedFrom n (valueOf f64 b)

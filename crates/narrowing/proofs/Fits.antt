@@ -1,0 +1,120 @@
+-- What a float comes to in a narrower format: a pick in range, one past it, an infinity and a NaN.
+use mathlib.Core.Path.{_≡_, refl, sym, ap, _∙_}
+use mathlib.Core.Bool.{Bool, true, false, cond}
+use Prim.Native.Nat.{ℕ, _+_, _-_, _*_, _/_, _%_, _^_, _≤_, _<_}
+use native.Mathlib.Omega.{arith}
+use lib.Dec.{lit<, lit≤}
+use lib.IntN.{ℤ}
+use borrow.Author.Tests.{le-ltb, lt-ltb, ne-eqb}
+use Rattle.grid.specs.Grid.{float}
+use Rattle.grid.specs.Round.{pick, pickMag, ruleFor, signed}
+use Rattle.grid.specs.declared.RoundingMode.{RoundingMode}
+use Rattle.grid.proofs.Kept.{pick-signed}
+use Rattle.grid.proofs.Neighbours.{cut}
+use Rattle.grid.proofs.Picked.{picked-pos}
+use Rattle.patterns.specs.Float.{bitsMag, infBits}
+use Rattle.patterns.specs.Kind.{Kind, InRange, binary, f64}
+use Rattle.patterns.specs.Value.{negative}
+use Rattle.patterns.specs.Pattern.{infinity, magBits, nanPattern, patternOf, quiet, withSign}
+use Rattle.patterns.proofs.Floats.{abs-signed, bits-in-range, bits-past-range, mag-back, sign-is}
+use Rattle.kinds.specs.declared.OutOfRangeMode.{OutOfRangeMode}
+use Rattle.kinds.specs.declared.OutOfRangeMode.the-variants.{None, Clamp, Wrap}
+use Rattle.kinds.specs.declared.Outcome.{Outcome}
+use Rattle.kinds.specs.declared.Outcome.the-variants.{Stored}
+use Rattle.kinds.specs.declared.Fit.the-variants.{Pattern, OutOfRange}
+use Rattle.cast_spec.specs.Element.{beyond, ranged}
+use Rattle.cast_spec.proofs.Steps.{by-range}
+use Rattle.floats.specs.Form.{f64Of}
+use Rattle.floats.specs.declared.Class.{Class}
+use Rattle.floats.specs.declared.Class.the-variants.{Finite, Infinite, NotANumber}
+use Rattle.floats.specs.declared.Float.{Float}
+use Rattle.floats.specs.declared.Scaled.{Scaled}
+use Rattle.narrowing.specs.Fit.{fitOf, overrunFit, fitBits, fitNumber, fitClass, fitFloat}
+
+-- ---- a pick in range is stored, and one past it goes as the range choice says
+module _ (k : Kind) (range : OutOfRangeMode) (v : ℕ) (neg : Bool) (y : ℤ) where
+  pub in-range-stored : InRange k y → ranged k range v neg y ≡ Stored (patternOf k neg y)
+  in-range-stored h = by-range (λ (o : Outcome). ranged k range v neg y ≡ o) k y (Stored (patternOf k neg y)) (beyond k range v neg y) refl .0 h
+
+  past-range-beyond : (InRange k y → ⊥) → ranged k range v neg y ≡ beyond k range v neg y
+  past-range-beyond n = by-range (λ (o : Outcome). ranged k range v neg y ≡ o) k y (Stored (patternOf k neg y)) (beyond k range v neg y) refl .1 n
+
+-- past the range of a float kind
+past-fit : (p w s : ℕ) (neg : Bool) (y : ℤ) (range : OutOfRangeMode) → overrunFit p w neg range ≡ fitOf (beyond (binary p w s) range 0 neg y)
+unfolding beyond
+past-fit p w s neg y None = refl
+past-fit p w s neg y Clamp = refl
+past-fit p w s neg y Wrap = refl
+
+-- ---- the two sides of an infinity's bits
+module _ (p w : ℕ) (neg : Bool) (range : OutOfRangeMode) where
+  pub bits-fit : (r : ℕ) → r < infBits p w → Pattern (withSign (w + p) neg r) ≡ fitBits p w neg range r
+  bits-fit r h = sym (ap (λ (c : Bool). cond c (Pattern (withSign (w + p) neg r)) (overrunFit p w neg range)) (lt-ltb r (infBits p w) h))
+
+  pub overrun-fit : (r : ℕ) → infBits p w ≤ r → overrunFit p w neg range ≡ fitBits p w neg range r
+  overrun-fit r h = sym (ap (λ (c : Bool). cond c (Pattern (withSign (w + p) neg r)) (overrunFit p w neg range)) (le-ltb r (infBits p w) h))
+
+pub refused-fit : (p w : ℕ) (neg : Bool) (range : OutOfRangeMode) → (range ≡ Clamp → ⊥) → OutOfRange ≡ overrunFit p w neg range
+refused-fit p w neg None other = refl
+refused-fit p w neg Clamp other = absurd (other refl)
+refused-fit p w neg Wrap other = refl
+
+-- ---- a finite magnitude n of the sign neg, by the bits r of its pick
+module _ (p w s : ℕ) (two : 2 ≤ p) (some : 0 < w) (mode : RoundingMode) (range : OutOfRangeMode) (neg : Bool) (n r : ℕ) (is : r ≡ magBits p s (pickMag (float p s) (ruleFor neg mode) n)) where
+  abbrev k : Kind
+  k = binary p w s
+
+  magnitude : bitsMag p s r ≡ pickMag (float p s) (ruleFor neg mode) n
+  magnitude = ap (bitsMag p s) is ∙ mag-back p w s two some _ (picked-pos (float p s) two (ruleFor neg mode) n .on)
+
+  picked-bits : pick (float p s) mode (signed neg n) ≡ signed neg (bitsMag p s r)
+  picked-bits = pick-signed (float p s) two mode neg n ∙ ap (signed neg) (sym magnitude)
+
+  fit-is : (o : Outcome) → ranged k range 0 neg (signed neg (bitsMag p s r)) ≡ o → fitOf o ≡ fitNumber k mode range neg (signed neg n)
+  fit-is o e = ap fitOf (sym (ap (ranged k range 0 neg) picked-bits ∙ e))
+
+  stored : r < infBits p w → ranged k range 0 neg (signed neg (bitsMag p s r)) ≡ Stored (withSign (w + p) neg r)
+  unfolding patternOf
+  stored h =
+      in-range-stored k range 0 neg (signed neg (bitsMag p s r)) (bits-in-range p w s two some neg r h)
+      ∙ ap (λ (z : ℕ). Stored (withSign (w + p) neg (magBits p s z))) (abs-signed neg (bitsMag p s r) ∙ magnitude)
+      ∙ ap (λ (z : ℕ). Stored (withSign (w + p) neg z)) (sym is)
+
+  past : infBits p w ≤ r → ranged k range 0 neg (signed neg (bitsMag p s r)) ≡ beyond k range 0 neg (signed neg (bitsMag p s r))
+  past h = past-range-beyond k range 0 neg (signed neg (bitsMag p s r)) (bits-past-range p w s two some neg r h)
+
+  pub number-fit : fitBits p w neg range r ≡ fitNumber k mode range neg (signed neg n)
+  number-fit = cut r (infBits p w)
+      (λ (h : r < infBits p w). sym (bits-fit p w neg range r h) ∙ fit-is (Stored (withSign (w + p) neg r)) (stored h))
+      (λ (h : infBits p w ≤ r). sym (overrun-fit p w neg range r h) ∙ past-fit p w s neg (signed neg (bitsMag p s r)) range ∙ fit-is (beyond k range 0 neg (signed neg (bitsMag p s r))) (past h))
+
+-- ---- by the class
+module _ (p w s : ℕ) (mode : RoundingMode) (range : OutOfRangeMode) (f : Float) where
+  pub finite-fit : (x : Scaled) → f .class ≡ Finite x → fitNumber (binary p w s) mode range (f .negative) (signed (f .negative) (x .significand * 2 ^ x .exponent)) ≡ fitFloat (binary p w s) mode range f
+  finite-fit x e = ap (fitClass (binary p w s) mode range f) (sym e)
+
+  pub infinite-fit : f .class ≡ Infinite → Pattern (infinity p w (f .negative)) ≡ fitFloat (binary p w s) mode range f
+  infinite-fit e = ap (fitClass (binary p w s) mode range f) (sym e)
+
+  -- the sign and the fraction of the f64 that stands for a NaN
+  module _ (t : ℕ) (e : f .class ≡ NotANumber t) (small : t < 2 ^ 52) where
+    nan-bits : f64Of f ≡ withSign 64 (f .negative) (infBits 53 11 + t)
+    nan-bits = ap (λ (c : Class). f64Of (record { negative = f .negative; class = c })) e
+
+    nan-sign : negative f64 (f64Of f) ≡ f .negative
+    nan-sign = ap (negative f64) nan-bits ∙ sign-is 53 11 0 (lit≤ tt) (lit< tt) (f .negative) (infBits 53 11 + t) (omega arith)
+
+    nan-fraction : f64Of f % 2 ^ 52 ≡ t % 2 ^ 52
+    nan-fraction = ap (λ (z : ℕ). z % 2 ^ 52) nan-bits ∙ go (f .negative)
+      where
+        go : (neg : Bool) → withSign 64 neg (infBits 53 11 + t) % 2 ^ 52 ≡ t % 2 ^ 52
+        go true = omega arith
+        go false = omega arith
+
+    pub nan-fit : p < 53 → Pattern (withSign (w + p) (f .negative) (infBits p w + quiet 53 p t)) ≡ fitFloat (binary p w s) mode range f
+    unfolding nanPattern
+    nan-fit less =
+        sym (simp (ne-eqb 53 p (λ (z : 53 ≡ p). omega arith))
+        (ap (λ (b : Bool). Pattern (withSign (w + p) b (infBits p w + quiet 53 p (f64Of f)))) nan-sign
+        ∙ ap (λ (z : ℕ). Pattern (withSign (w + p) (f .negative) (infBits p w + (2 ^ (p - 2) + z * 2 ^ (p - 1) / 2 ^ 52 % 2 ^ (p - 2))))) nan-fraction))
+        ∙ ap (fitClass (binary p w s) mode range f) (sym e)

@@ -1,0 +1,5 @@
+pub mod Carried
+pub mod Magnitudes
+pub mod Formats
+pub mod Fits
+pub mod Outcomes

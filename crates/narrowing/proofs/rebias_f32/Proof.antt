@@ -1,0 +1,12 @@
+-- `narrowing::rebias_f32` meets its contract: the rebiased bits meet the range.
+use mathlib.Core.Path.{ap, _∙_}
+use borrow.Author.Needs.{needs}
+use Rattle.narrowing.specs.Fit.{fitBits}
+use Rattle.narrowing.proofs.rebias_f32.Statement.{statement}
+use Rattle.narrowing.proofs.rebias_f32.Tie as tie
+
+returns : tie.Need-returns
+returns c = let a = c .before .before .args in c .fit-bits .ensures ∙ ap (fitBits 24 8 (a .negative) (a .range)) (c .before .rebias .ensures)
+
+pub rebias-f32-spec : {M : Type 1} → statement M
+rebias-f32-spec = tie.close (tie.spec (λ c κs. search needs) (λ c κs. search needs) returns)

@@ -1,0 +1,51 @@
+-- Internal: what an element comes to in a kind that no map entry matches, but for the fields of a refusal.
+use mathlib.Core.Bool.{Bool, cond}
+use Prim.Native.Nat.{ℕ, _+_, _*_, _^_}
+use lib.Dec.{ltb}
+use lib.IntN.{ℤ}
+use Rattle.grid.specs.Round.{pick, signed}
+use Rattle.grid.specs.declared.RoundingMode.{RoundingMode}
+use Rattle.patterns.specs.Float.{infBits}
+use Rattle.patterns.specs.Kind.{Kind, integer, binary, f64, gridOf}
+use Rattle.patterns.specs.Pattern.{infinity, nanPattern, withSign}
+use Rattle.kinds.specs.declared.OutOfRangeMode.{OutOfRangeMode}
+use Rattle.kinds.specs.declared.OutOfRangeMode.the-variants.{None, Clamp, Wrap}
+use Rattle.kinds.specs.declared.Outcome.{Outcome}
+use Rattle.kinds.specs.declared.Outcome.the-variants as O
+use Rattle.kinds.specs.declared.Fit.{Fit}
+use Rattle.kinds.specs.declared.Fit.the-variants.{Pattern, NotFinite, OutOfRange}
+use Rattle.cast_spec.specs.Element.{ranged}
+use Rattle.floats.specs.Form.{f64Of}
+use Rattle.floats.specs.declared.Class.{Class}
+use Rattle.floats.specs.declared.Class.the-variants.{Finite, Infinite, NotANumber}
+use Rattle.floats.specs.declared.Float.{Float}
+
+-- an outcome without its value and ends
+abbrev pub fitOf : Outcome → Fit
+fitOf (O.Stored b) = Pattern b
+fitOf (O.NanOrInf v) = NotFinite
+fitOf (O.OutOfRange v lo hi) = OutOfRange
+fitOf (O.FloatOutOfRange v lo hi) = OutOfRange
+
+-- the bits below a sign in a float kind: those of an infinity or more lie past the range
+abbrev pub overrunFit : ℕ → ℕ → Bool → OutOfRangeMode → Fit
+overrunFit p w neg None = OutOfRange
+overrunFit p w neg Clamp = Pattern (infinity p w neg)
+overrunFit p w neg Wrap = OutOfRange
+
+abbrev pub fitBits : ℕ → ℕ → Bool → OutOfRangeMode → ℕ → Fit
+fitBits p w neg range b = cond (ltb b (infBits p w)) (Pattern (withSign (w + p) neg b)) (overrunFit p w neg range)
+
+-- a number x of the sign neg; no fit has the value that stands as 0 here
+abbrev pub fitNumber : Kind → RoundingMode → OutOfRangeMode → Bool → ℤ → Fit
+fitNumber k rule range neg x = fitOf (ranged k range 0 neg (pick (gridOf k) rule x))
+
+abbrev pub fitClass : Kind → RoundingMode → OutOfRangeMode → Float → Class → Fit
+fitClass k rule range f (Finite x) = fitNumber k rule range (f .negative) (signed (f .negative) (x .significand * 2 ^ x .exponent))
+fitClass (integer s n) rule range f Infinite = NotFinite
+fitClass (integer s n) rule range f (NotANumber t) = NotFinite
+fitClass (binary p w s) rule range f Infinite = Pattern (infinity p w (f .negative))
+fitClass (binary p w s) rule range f (NotANumber t) = Pattern (nanPattern f64 p w (f64Of f))
+
+abbrev pub fitFloat : Kind → RoundingMode → OutOfRangeMode → Float → Fit
+fitFloat k rule range f = fitClass k rule range f (f .class)

@@ -1,0 +1,26 @@
+-- Internal: the formats that are narrower than f64.
+use mathlib.Core.Path.{_≡_}
+use mathlib.Core.Bool.{cond}
+use Prim.Native.Nat.{ℕ, _+_, _-_, _*_, _/_, _^_, _≤_, _<_}
+use lib.Dec.{eqb}
+
+-- p significant bits and the smallest spacing 2^s, which begins above the exponents that f64 has no normal numbers for
+pub record Narrower (p s : ℕ) : Type 0 where
+  pub two : 2 ≤ p
+  pub fewer : p < 53
+  pub coarser : 53 - p < s
+  pub within : s < 2046
+
+-- p significant bits and w bits of exponent field
+pub record FormatBits (p w : ℕ) : Type 0 where
+  pub two : 2 ≤ p
+  pub fewer : p < 53
+  pub positive : 0 < w
+  pub at-most-11 : w < 12
+
+-- 0, or the bits of a number that is normal in the narrower format
+pub record Rebiasable (p s bits : ℕ) : Type 0 where
+  pub normal : (bits ≡ 0 → ⊥) → (s - (53 - p)) * 2 ^ 52 ≤ bits
+
+abbrev pub rebiased : ℕ → ℕ → ℕ → ℕ
+rebiased p s bits = cond (eqb bits 0) 0 ((bits - (s - (53 - p)) * 2 ^ 52) / 2 ^ (53 - p))

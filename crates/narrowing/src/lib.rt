@@ -1,0 +1,118 @@
+// A float rounded once to a narrower format: a finite magnitude, an infinity and a NaN, for any precision and any exponent field.
+ghost use mathlib.Core.Path.{_≡_};
+ghost use Prim.Native.Nat.{_*_, _^_, _<_};
+ghost use Rattle.grid.specs.Grid.{float};
+ghost use Rattle.grid.specs.Round.{pickMag, ruleFor};
+ghost use Rattle.patterns.specs.Float.{infBits};
+ghost use Rattle.patterns.specs.Kind.{binary, f32};
+ghost use Rattle.patterns.specs.Pattern.{magBits, quiet};
+ghost use Rattle.floats.specs.Form.{Canonical, CanonicalClass};
+ghost use Rattle.narrowing.specs.Format.{Narrower, FormatBits, Rebiasable, rebiased};
+ghost use Rattle.narrowing.specs.Fit.{fitBits, fitFloat};
+use floats::Class;
+use floats::Float;
+use floats::Scaled;
+use grid::RoundingMode;
+use kinds::Fit;
+use kinds::OutOfRangeMode;
+
+// The bits below the sign of a finite magnitude, rounded to p significant bits and the smallest spacing 2^s; those of an infinity or more where the
+// format is overrun.
+pub fn narrow_magnitude(x: Scaled, p: u32, s: u64, mode: RoundingMode, negative: bool) -> u64
+    requires { ⌜ Canonical x × Narrower p s ⌝ }
+    ensures { λ r. ⌜ r ≡ magBits p s (pickMag (float p s) (ruleFor negative mode) (x .significand * 2 ^ x .exponent)) ⌝ }
+{
+    let exponent = x.exponent;
+    let drop = 53 - p;
+    let base = s - (drop as u64);
+    if base <= exponent {
+        let bits = ((exponent - base) << 52) + x.significand;
+        return rounding::round_shift(bits, drop, mode, negative);
+    }
+    let bits = rounding::at_most_63(s - exponent);
+    rounding::round_shift(x.significand, bits, mode, negative)
+}
+
+// The bits below the sign of an infinity of p significant bits and w bits of exponent field.
+fn infinity_bits(p: u32, w: u32) -> u64
+    requires { ⌜ FormatBits p w ⌝ }
+    ensures { λ r. ⌜ r ≡ infBits p w ⌝ }
+{
+    ((1u64 << w) - 1) << (p - 1)
+}
+
+// The top of an f64 NaN's fraction as one of p - 1 bits, with the highest bit set.
+fn quiet_fraction(fraction: u64, p: u32) -> u64
+    requires { ⌜ (1 < p) × (p < 53) × (fraction < 2 ^ 52) ⌝ }
+    ensures { λ r. ⌜ r ≡ quiet 53 p fraction ⌝ }
+{
+    let highest = 1u64 << (p - 2);
+    highest + ((fraction >> (53 - p)) & (highest - 1))
+}
+
+// The bits below a sign as a pattern of the format of p significant bits and w bits of exponent field, by the range choice where they reach an
+// infinity's.
+fn fit_bits(bits: u64, negative: bool, p: u32, w: u32, range: OutOfRangeMode) -> Fit
+    requires { ⌜ FormatBits p w ⌝ }
+    ensures { λ r. ⌜ r ≡ fitBits p w negative range bits ⌝ }
+{
+    let sign = floats::sign_bit(negative, w + p - 1);
+    let infinity = infinity_bits(p, w);
+    if bits < infinity {
+        return Fit::Pattern(sign + bits);
+    }
+    if let OutOfRangeMode::Clamp = range {
+        return Fit::Pattern(sign + infinity);
+    }
+    Fit::OutOfRange
+}
+
+// A float rounded to the format of p significant bits, w bits of exponent field and the smallest spacing 2^s.
+fn narrow(x: Float, p: u32, w: u32, s: u64, mode: RoundingMode, range: OutOfRangeMode) -> Fit
+    requires { ⌜ CanonicalClass (x .class) × Narrower p s × FormatBits p w ⌝ }
+    ensures { λ r. ⌜ r ≡ fitFloat (binary p w s) mode range x ⌝ }
+{
+    let negative = x.negative;
+    let class = x.class;
+    let sign = floats::sign_bit(negative, w + p - 1);
+    match class {
+        Class::Finite(magnitude) => {
+            let bits = narrow_magnitude(magnitude, p, s, mode, negative);
+            fit_bits(bits, negative, p, w, range)
+        }
+        Class::Infinite => Fit::Pattern(sign + infinity_bits(p, w)),
+        Class::NotANumber { fraction } => {
+            Fit::Pattern(sign + (infinity_bits(p, w) + quiet_fraction(fraction, p)))
+        }
+    }
+}
+
+// A float rounded to f32.
+pub fn narrow_f32(x: Float, mode: RoundingMode, range: OutOfRangeMode) -> Fit
+    requires { ⌜ CanonicalClass (x .class) ⌝ }
+    ensures { λ r. ⌜ r ≡ fitFloat f32 mode range x ⌝ }
+{
+    narrow(x, 24, 8, 925, mode, range)
+}
+
+// The bits below the sign of a number that f64 has as `bits`, in a format of p significant bits and the smallest spacing 2^s where the number is 0
+// or normal: the exponent field counts from another start, and the low bits are 0.
+fn rebias(bits: u64, p: u32, s: u64) -> u64
+    requires { ⌜ Narrower p s × Rebiasable p s bits ⌝ }
+    ensures { λ r. ⌜ r ≡ rebiased p s bits ⌝ }
+{
+    if bits == 0 {
+        return 0;
+    }
+    let drop = 53 - p;
+    let base = s - (drop as u64);
+    (bits - (base << 52)) >> drop
+}
+
+// An integer that was rounded to f32's precision, and has the bits below its sign in f64, as an f32.
+pub fn rebias_f32(bits: u64, negative: bool, range: OutOfRangeMode) -> Fit
+    requires { ⌜ Rebiasable 24 925 bits ⌝ }
+    ensures { λ r. ⌜ r ≡ fitBits 24 8 negative range (rebiased 24 925 bits) ⌝ }
+{
+    fit_bits(rebias(bits, 24, 925), negative, 24, 8, range)
+}
