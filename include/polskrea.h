@@ -5,7 +5,7 @@
  * no state, allocates nothing, and may be called from several threads at once).
  *
  * What is said below of the answer and of the destination is proved of the library's code, for every input that keeps the caller's side:
- * crates/polskrea/specs/Entry.antt states it. Nothing checks the caller's side.
+ * crates/polskrea/specs/Returned.antt states it. Nothing checks the caller's side.
  */
 #ifndef POLSKREA_H
 #define POLSKREA_H

@@ -1,4 +1,4 @@
 pub mod Sums
 pub mod Halves
 pub mod Places
-pub mod Parts
+pub mod LentBytes

@@ -1,14 +1,9 @@
 -- One element with its map, and one place: what the parts of the call have in hand.
 use mathlib.Core.Path.{_≡_, refl, sym, ap, ap₂, subst, _∙_}
-use mathlib.Core.Logic.{⊎-elim}
-use mathlib.Core.Bool.{Bool}
-use mathlib.Core.List.{List, [], _∷_}
+use mathlib.Core.List.{List}
 use Prim.Native.Nat.{ℕ, _+_, _*_, _^_, _≤_, _<_}
 use native.Mathlib.Nat.{le-of-eq, lt-of-lt-of-le}
-use native.Mathlib.Omega.{arith}
 use lib.ListN.{length}
-use denote.Enum.Declared.{tagOf}
-use types.Run.{OneOf}
 use Rattle.bytes_le.specs.Bytes.{Place}
 use Rattle.patterns.specs.Kind.{Kind, bits, integer}
 use Rattle.patterns.specs.Value.{valueOf}
@@ -17,16 +12,13 @@ use Rattle.kinds.specs.Row.{kindIn, FormatRow}
 use Rattle.kinds.specs.declared.Format.{Format}
 use Rattle.kinds.specs.declared.Format.the-variants.{Integer, Float}
 use Rattle.kinds.specs.declared.IntegerFormat.{IntegerFormat}
-use Rattle.kinds.specs.declared.FloatFormat.{FloatFormat}
 use Rattle.kinds.specs.declared.Lookup.{Lookup}
 use Rattle.kinds.specs.declared.Lookup.the-variants.{Missing}
 use Rattle.kinds.specs.declared.Outcome.{Outcome}
 use Rattle.kinds.specs.declared.Outcome.the-variants.{Stored, NanOrInf, OutOfRange, FloatOutOfRange}
 use Rattle.kinds.specs.declared.Fit.{Fit}
-use Rattle.kinds.specs.declared.Fit.the-variants as F
 use Rattle.kinds.specs.declared.Answer.the-variants.{Converted}
-use Rattle.kinds.proofs.Fit.{the-type}
-use Rattle.cast_spec.specs.Element.{converted, foundOr, lookupOf, outcomeOf}
+use Rattle.cast_spec.specs.Element.{foundOr, lookupOf, outcomeOf}
 use Rattle.cast_spec.specs.Chunk.{answerNext, entriesFrom, Refuses}
 use Rattle.cast_spec.proofs.Steps.{no-map}
 use Rattle.cast_spec.proofs.Widths.{byte-patterns}

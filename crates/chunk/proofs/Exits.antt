@@ -7,7 +7,7 @@ use native.Mathlib.Nat.{add-zero, div-add-mod', le-of-eq, sub-zero, zero-mul}
 use native.Mathlib.Omega.{arith}
 use lib.Dec.{ltb, eqb}
 use lib.ListN.{length, take, drop}
-use borrow.Author.Tests.{ltb-true, ne-eqb, eq-eqb, eqb-true}
+use borrow.Author.Tests.{ltb-true, eq-eqb, eqb-true}
 use Rattle.cast_spec.specs.Chunk.{Inputs, sw, dw, codesListed, mapWhole, bytesWhole, callOf, answerOf, destinationOf, countsMeet, outcomeAt, settingsOf, answerFrom, bytesFrom}
 use Rattle.cast_spec.specs.Demand3.{Contract}
 use Rattle.cast_spec.proofs.Demand3.{contract}

@@ -1,10 +1,9 @@
 -- What a float's form comes to in a kind is what its pattern comes to.
-use mathlib.Core.Path.{_≡_, refl, sym, ap, ap₂, subst, _∙_}
+use mathlib.Core.Path.{_≡_, refl, sym, ap, subst, _∙_}
 use mathlib.Core.Bool.{Bool}
 use mathlib.Core.List.{[]}
 use mathlib.Core.Logic.{⊎-elim}
 use Prim.Native.Nat.{ℕ, _*_, _^_, _<_}
-use lib.Dec.{lit<, lit≤}
 use lib.IntN.{ℤ, natAbs}
 use Rattle.grid.specs.Round.{pick, signed}
 use Rattle.grid.specs.declared.RoundingMode.{RoundingMode}
@@ -21,7 +20,7 @@ use Rattle.cast_spec.specs.Element.{converted}
 use Rattle.floats.specs.Form.{classFor, f64Of, floatOf, scaledOf}
 use Rattle.floats.proofs.Values.{Formed, f32-formed, f64-formed}
 use Rattle.narrowing.specs.Fit.{fitClass, fitFloat, fitNumber, fitOf}
-use Rattle.element.specs.Convert.{FloatPattern, unmapped}
+use Rattle.element.specs.Convert.{unmapped}
 use Rattle.element.proofs.Filled.{fit-any}
 
 -- ---- the rows

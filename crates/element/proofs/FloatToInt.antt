@@ -1,7 +1,7 @@
 -- A float element going to an integer kind: not finite, or the range step of its whole number.
 use mathlib.Core.Path.{_≡_, refl, sym, ap, _∙_}
 use mathlib.Core.Bool.{Bool}
-use mathlib.Core.List.{List, [], _∷_}
+use mathlib.Core.List.{[], _∷_}
 use mathlib.Core.Logic.{⊎-elim}
 use Prim.Native.Nat.{ℕ, _*_, _^_}
 use native.Mathlib.Omega.{arith}
@@ -9,7 +9,7 @@ use lib.IntN.{ℤ}
 use denote.Enum.Declared.{tagOf}
 use types.Run.{OneOf}
 use Rattle.grid.specs.Grid.{whole}
-use Rattle.grid.specs.Round.{pick, ruleFor, signed}
+use Rattle.grid.specs.Round.{ruleFor, signed}
 use Rattle.grid.specs.declared.RoundingMode.{RoundingMode}
 use Rattle.grid.proofs.Kept.{pick-signed}
 use Rattle.patterns.specs.Kind.{integer}

@@ -1,11 +1,9 @@
 -- An integer element going to a float kind: the f64 that holds its pick has the pick's bits there, for any narrower format and for f64 itself.
 use mathlib.Core.Path.{_≡_, sym, ap, subst, _∙_}
-use mathlib.Core.Bool.{Bool}
-use Prim.Native.Nat.{ℕ, _+_, _-_, _*_, _^_, _≤_, _<_}
+use Prim.Native.Nat.{ℕ, _-_, _*_, _^_, _≤_, _<_}
 use native.Mathlib.Nat.{zero-mul}
 use native.Mathlib.Omega.{arith}
 use lib.Dec.{lit<, lit≤}
-use lib.Ieee.{size}
 use Rattle.grid.specs.Grid.{OnMag, float}
 use Rattle.grid.specs.Round.{pickMag, ruleFor}
 use Rattle.grid.specs.declared.RoundingMode.{RoundingMode}

@@ -1,13 +1,10 @@
 -- An integer element by sign and magnitude: its number, and what it comes to in a kind.
 use mathlib.Core.Path.{_≡_, refl, sym, ap, subst, _∙_}
-use mathlib.Core.Bool.{Bool, true, false}
+use mathlib.Core.Bool.{Bool, false}
 use mathlib.Core.List.{[]}
-use Prim.Native.Nat.{ℕ, _-_, _*_, _^_, _≤_, _<_}
-use native.Mathlib.Nat.{lt-of-le-of-lt, lt-of-lt-of-le, mod-eq-of-lt}
-use native.Mathlib.Omega.{arith}
-use lib.Dec.{lit<}
+use Prim.Native.Nat.{ℕ, _-_, _*_, _^_, _<_}
+use native.Mathlib.Nat.{mod-eq-of-lt}
 use lib.IntN.{ℤ}
-use lib.Pow.{pow-mono}
 use borrow.Author.Tests.{lt-leb}
 use Rattle.grid.specs.Grid.{OnMag, whole}
 use Rattle.grid.specs.Round.{pick, signed}
@@ -18,13 +15,12 @@ use Rattle.patterns.specs.Kind.{Kind, f64, gridOf, integer}
 use Rattle.patterns.specs.Value.{num, negative, valueOf}
 use Rattle.patterns.specs.Pattern.{asF64, asF64From, patternOf}
 use Rattle.patterns.proofs.Floats.{abs-signed}
-use Rattle.patterns.proofs.Integers.{high-lt}
 use Rattle.kinds.specs.declared.OutOfRangeMode.{OutOfRangeMode}
 use Rattle.kinds.specs.declared.Fit.{Fit}
 use Rattle.cast_spec.specs.Element.{converted, ranged}
 use Rattle.integers.specs.Magnitude.{IntegerPattern, magnitudeOf}
 use Rattle.integers.specs.declared.Integer.{Integer}
-use Rattle.integers.proofs.Magnitudes.{magnitude-value, negative-bounds, positive-bound}
+use Rattle.integers.proofs.Magnitudes.{magnitude-value}
 use Rattle.narrowing.specs.Fit.{fitOf}
 use Rattle.element.specs.Convert.{RangeApplied, elementF64, fitInteger, unmapped}
 use Rattle.element.specs.declared.Element.the-variants as E

@@ -1,5 +1,5 @@
 -- The fields of a refusal: an element's f64 is its pattern's, and the ends are the row's.
-use mathlib.Core.Path.{_≡_, refl, sym, ap₂, subst, _∙_}
+use mathlib.Core.Path.{_≡_, refl, sym, ap₂, subst}
 use mathlib.Core.Logic.{⊎-elim}
 use Prim.Native.Nat.{ℕ}
 use Rattle.patterns.specs.Pattern.{asF64}

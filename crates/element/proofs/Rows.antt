@@ -1,9 +1,8 @@
 -- The float rows by their precision: 24 is f32's alone, and any other is f64's.
 use mathlib.Core.Path.{_≡_, sym, ap, _∙_}
 use mathlib.Core.Logic.{⊎-elim}
-use Prim.Native.Nat.{ℕ, _≤_}
+use Prim.Native.Nat.{ℕ}
 use native.Mathlib.Omega.{arith}
-use lib.Dec.{lit≤}
 use Rattle.kinds.specs.Row.{floatFormat, FloatRow}
 use Rattle.kinds.specs.declared.FloatFormat.{FloatFormat}
 use Rattle.integers.specs.Precision.{Precision}

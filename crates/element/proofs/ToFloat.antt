@@ -1,35 +1,33 @@
 -- Elements going to a float kind with nothing rounded: a float to its own kind, and any float to f64.
-use mathlib.Core.Path.{_≡_, refl, sym, ap, ap₂, subst, _∙_}
-use mathlib.Core.Bool.{Bool, true, false}
+use mathlib.Core.Path.{_≡_, refl, sym, ap, ap₂, _∙_}
+use mathlib.Core.Bool.{Bool}
 use mathlib.Core.List.{[]}
-use mathlib.Core.Logic.{⊎-elim}
-use Prim.Native.Nat.{ℕ, _+_, _-_, _*_, _^_, _≤_, _<_, max}
+use Prim.Native.Nat.{ℕ, _+_, _-_, _*_, _^_, _≤_, _<_}
 use native.Mathlib.Omega.{arith}
 use lib.Dec.{lit<, lit≤}
-use lib.Ieee.Digits.{size-le}
 use lib.IntN.{ℤ, natAbs}
 use borrow.Author.Tests.{eq-eqb}
 use Rattle.grid.specs.Grid.{OnGrid, OnMag, float}
-use Rattle.grid.specs.Round.{pick, pickMag, ruleFor, signed}
+use Rattle.grid.specs.Round.{pick, pickMag, ruleFor}
 use Rattle.grid.specs.declared.RoundingMode.{RoundingMode}
 use Rattle.grid.proofs.Picked.{pick-own, picked-pos}
-use Rattle.patterns.specs.Kind.{InRange, Kind, WellFormed, binary, f32, f64, gridOf}
+use Rattle.patterns.specs.Kind.{InRange, Kind, WellFormed, binary, f64, gridOf}
 use Rattle.patterns.specs.Value.{Value, nan, inf, num, negative, valueOf}
-use Rattle.patterns.specs.Pattern.{asF64, infinity, magBits, nanPattern, patternOf, withSign}
+use Rattle.patterns.specs.Pattern.{asF64, magBits, nanPattern, patternOf, withSign}
 use Rattle.patterns.proofs.AnyKind.{pattern-only, sound}
 use Rattle.patterns.proofs.Floats.{infinity-bits, infinity-sign, number-of-format, signed-again}
 use Rattle.kinds.specs.declared.OutOfRangeMode.{OutOfRangeMode}
 use Rattle.kinds.specs.declared.Outcome.the-variants.{Stored}
 use Rattle.kinds.specs.declared.Fit.the-variants.{Pattern}
 use Rattle.cast_spec.specs.Element.{converted, ranged}
-use Rattle.floats.specs.Form.{CanonicalClass, f64Of, finiteBits, scaledOf}
+use Rattle.floats.specs.Form.{CanonicalClass, f64Of, finiteBits}
 use Rattle.floats.specs.declared.Class.{Class}
 use Rattle.floats.specs.declared.Class.the-variants.{Finite, Infinite, NotANumber}
 use Rattle.floats.specs.declared.Float.{Float}
 use Rattle.floats.specs.declared.Scaled.{Scaled}
 use Rattle.floats.proofs.Forms.{scaled-only}
 use Rattle.floats.proofs.Values.{scaled-bits}
-use Rattle.narrowing.specs.Fit.{fitClass, fitFloat, fitNumber, fitOf}
+use Rattle.narrowing.specs.Fit.{fitClass, fitFloat}
 use Rattle.narrowing.proofs.Fits.{bits-fit, in-range-stored, number-fit}
 use Rattle.element.specs.Convert.{unmapped}
 

@@ -200,7 +200,7 @@ pub fn convert_float_to_float(
     }
 }
 
-// An integer to a float kind: rounded once, from its own bits, to the target's precision, as an f64 that holds the pick.
+// An integer to a float kind: rounded once, from its own bits, to the target's precision, as the f64 that is the pick.
 pub fn convert_int_to_float(
     x: Integer,
     to: FloatFormat,

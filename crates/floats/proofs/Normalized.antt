@@ -1,5 +1,5 @@
 -- A number of at most 53 bits moved up until its highest bit is the 53rd: by how many places, and that it is the same magnitude.
-use mathlib.Core.Path.{_≡_, sym, ap, ap₂, _∙_}
+use mathlib.Core.Path.{_≡_, sym, ap, _∙_}
 use Prim.Native.Nat.{ℕ, suc, _+_, _-_, _*_, _%_, _^_, _≤_, _<_}
 use native.Mathlib.Nat.{le-of-eq, le-trans, lt-of-lt-of-le, mod-eq-of-lt, mul-assoc, mul-le-mul-right, zero-mul}
 use native.Mathlib.Omega.{arith}

@@ -20,7 +20,7 @@ use Rattle.patterns.specs.Pattern.{asF64, asF64From, magBits, nanPattern, patte
 use Rattle.patterns.proofs.AnyKind.{largest-bits, sign-of}
 use Rattle.patterns.proofs.Floats.{infinity-sign, mag-lt, nan-bits, number-of-format, signed-again, whole-units}
 use Rattle.floats.specs.Form.{CanonicalClass, classBits, classFor, f64Of, finiteBits, floatOf, scaledOf}
-use Rattle.floats.specs.declared.Class.the-variants.{Finite, Infinite, NotANumber}
+use Rattle.floats.specs.declared.Class.the-variants.{Finite}
 use Rattle.floats.specs.declared.Scaled.{Scaled}
 use Rattle.floats.proofs.Forms.{quiet-fraction}
 

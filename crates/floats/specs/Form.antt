@@ -1,4 +1,4 @@
--- Internal: a float element as a program holds it, by sign and class, for any precision, exponent width and spacing.
+-- Internal: a float element as a program has it, by sign and class, for any precision, exponent width and spacing.
 use mathlib.Core.Bool.{Bool, cond}
 use Prim.Native.Nat.{ℕ, _+_, _-_, _*_, _/_, _%_, _^_, _≤_, _<_}
 use lib.Dec.{eqb}

@@ -1,4 +1,4 @@
-// A float's bit pattern taken apart and read: the number, the infinity or the NaN that it stands for. A format is read as the f64 that has its
+// A float's bit pattern taken apart and read: the number, the infinity or the NaN that it stands for. A float of any format is read as the f64 that has its
 // value, so that whatever follows knows one form.
 ghost use mathlib.Core.Path.{_≡_};
 ghost use mathlib.Core.Bool.{cond};
@@ -20,7 +20,7 @@ pub struct Scaled {
     pub exponent: u64,
 }
 
-// What a float is but for its sign. A NaN has its fraction as an f64 holds it.
+// What a float is but for its sign. A NaN has its fraction as an f64 has it.
 pub enum Class {
     Finite(Scaled),
     Infinite,
@@ -86,7 +86,7 @@ fn finite(negative: bool, significand: u64, exponent: u64) -> Float
     }
 }
 
-// The float of an exponent field of ones: an infinity, or a NaN whose fraction an f64 holds as `nan`.
+// The float of an exponent field of ones: an infinity, or a NaN whose fraction in an f64 is `nan`.
 fn infinite_or_nan(negative: bool, fraction: u64, nan: u64) -> Float
     ensures { λ r. ⌜ r ≡ infiniteOrNan negative fraction nan ⌝ }
 {

@@ -1,4 +1,4 @@
--- The pick of m * 2 ^ e from m's own digits: what a program computes.
+-- The pick of m * 2 ^ e from m's own bits: what a program computes.
 use mathlib.Core.Path.{_≡_, refl, sym, ap, _∙_, subst}
 use mathlib.Core.Bool.{Bool, true, false}
 use Prim.Native.Nat.{ℕ, zero, suc, _+_, _-_, _*_, _/_, _%_, _^_, _≤_, _<_, max}
@@ -42,7 +42,7 @@ scaled : (g : Grid) (r : RoundingMode) (a b c : ℕ) → 0 < c → 2 ^ unitExp g
 unfolding pickMag
 scaled g r a b c h e = rw (e, mul-div-mul-right a b h, mod-scale a b c h, step-scale r (a / b) (a % b) b c h)
 
--- ---- how many digits m * 2 ^ t has
+-- ---- how many bits m * 2 ^ t has
 pub size-pos : (m : ℕ) → 0 < m → 0 < size m
 size-pos m h = cut 0 (size m) (λ l. l) (λ (l : size m ≤ 0). absurd (omega (arith, size-lt m, pow-mono l)))
 
@@ -64,7 +64,7 @@ unit-is : (g : Grid) (m e : ℕ) → 0 < m → unitExp g (m * 2 ^ e) ≡ unitAt 
 unit-is (whole k) m e h = refl
 unit-is (float p s) m e h = rw (size-shift m e h)
 
--- where the spacing is coarser: m's digits above k - e, stepped by those below
+-- where the spacing is coarser: m's bits above k - e, stepped by those below
 pub pick-shift : (g : Grid) (r : RoundingMode) (m e : ℕ) → 0 < m → e ≤ unitAt g m e
     → pickMag g r (m * 2 ^ e) ≡ step r (m / 2 ^ (unitAt g m e - e)) (m % 2 ^ (unitAt g m e - e)) (2 ^ (unitAt g m e - e)) * 2 ^ unitAt g m e
 pick-shift g r m e h l =

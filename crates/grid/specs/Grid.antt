@@ -26,7 +26,7 @@ pub record EvenMag (g : Grid) (n : ℕ) : Type 0 where
   pub least : (m′ e′ : ℕ) → Written g n m′ e′ → e ≤ e′
   pub even : m % 2 ≡ 0
 
--- a grid holds the negative of each of its numbers
+-- a grid has the negative of each of its numbers
 abbrev pub OnGrid : Grid → ℤ → Type 0
 OnGrid g x = OnMag g (natAbs x)
 

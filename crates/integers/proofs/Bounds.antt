@@ -1,5 +1,5 @@
 -- A 64-bit integer's pick is at most 2^64, and so a number of f64 whatever the precision.
-use mathlib.Core.Path.{_≡_, sym, ap, subst, _∙_}
+use mathlib.Core.Path.{_≡_, sym, ap, subst}
 use Prim.Native.Nat.{ℕ, _+_, _-_, _*_, _^_, _≤_, _<_}
 use native.Mathlib.Nat.{le-of-eq, le-of-lt, le-trans, lt-trans, mul-le-mul-right, one-mul}
 use native.Mathlib.Omega.{arith}

@@ -16,7 +16,7 @@ use Rattle.grid.specs.Round.{step, pickMag}
 use Rattle.integers.specs.Precision.{Precision, stepsUp}
 use Rattle.integers.proofs.Steps.{step-by-up}
 use Rattle.integers.proofs.Sums.{ofInt-exact, add-exact}
-use Rattle.integers.proofs.Scale.{pick-few-digits, pick-many-digits}
+use Rattle.integers.proofs.Scale.{pick-few-bits, pick-many-bits}
 
 -- what exceeds the precision is dropped
 pub dropped : (p z m : ℕ) → z ≡ size m → p < z → p + (z - p) ≡ size m
@@ -24,14 +24,14 @@ dropped p z m e h = omega arith
 
 module _ (p m : ℕ) (ok : Precision p) where
   -- ---- no digit is dropped
-  pub few-digits : (r : RoundingMode) → size m ≤ p → HasValue (ofInt binary64 (pos m)) false (pickMag (float p 0) r m) 1
-  few-digits r h =
+  pub few-bits : (r : RoundingMode) → size m ≤ p → HasValue (ofInt binary64 (pos m)) false (pickMag (float p 0) r m) 1
+  few-bits r h =
       let l : m ≤ 2 ^ 53 = omega (arith, size-lt m, pow-mono {i = size m} {j = 53} (omega (arith, ok .at-most-53))) in
       let a = subst (λ (z : ℕ). HasValue (ofInt binary64 (pos z)) false z 1) (mul-one m) (ofInt-exact binary64 m 0 (omega arith) l) in
-      let b = subst (λ (z : ℕ). pickMag (float p 0) r z ≡ z) (mul-one m) (pick-few-digits p 0 r m 0 (omega arith) h) in
+      let b = subst (λ (z : ℕ). pickMag (float p 0) r z ≡ z) (mul-one m) (pick-few-bits p 0 r m 0 (omega arith) h) in
       subst (λ (z : ℕ). HasValue (ofInt binary64 (pos m)) false z 1) (sym b) a
 
-  -- ---- k digits are dropped
+  -- ---- k bits are dropped
   module _ (k : ℕ) (is : p + k ≡ size m) (word : m < 2 ^ 64) where
     pub shift-lt : k < 63
     shift-lt = omega (arith, ok .two, size-le m 64 word)
@@ -65,7 +65,7 @@ module _ (p m : ℕ) (ok : Precision p) where
         let q = m / 2 ^ k in
         let s : q + cond t 1 0 ≡ step r q (m % 2 ^ k) (2 ^ k) = ap (λ (z : Bool). q + cond z 1 0) e ∙ sym (step-by-up r q (m % 2 ^ k) (2 ^ k)) in
         subst (λ (z : ℕ). HasValue (add binary64 (ofInt binary64 (pos (q * 2 ^ k))) (ofInt binary64 (pos (cond t 1 0 * 2 ^ k)))) false z 1)
-        (ap (λ (z : ℕ). z * 2 ^ k) s ∙ sym (pick-many-digits p r m k is))
+        (ap (λ (z : ℕ). z * 2 ^ k) s ∙ sym (pick-many-bits p r m k is))
         (add-exact binary64 q (cond t 1 0) k (omega (arith, shift-lt)) (carried t))
 
     -- what a program adds to the kept part: a unit, or 0
@@ -73,9 +73,9 @@ module _ (p m : ℕ) (ok : Precision p) where
     added true = unit-is ∙ sym (one-mul (2 ^ k))
     added false = ap (λ (z : ℕ). z % 2 ^ 64) (zero-mul (2 ^ k)) ∙ sym (zero-mul (2 ^ k))
 
-    pub many-digits : (r : RoundingMode) (t : Bool) (x y : Float) → t ≡ stepsUp r (m / 2 ^ k) (m - m / 2 ^ k * 2 ^ k % 2 ^ 64) (1 * 2 ^ k % 2 ^ 64)
+    pub many-bits : (r : RoundingMode) (t : Bool) (x y : Float) → t ≡ stepsUp r (m / 2 ^ k) (m - m / 2 ^ k * 2 ^ k % 2 ^ 64) (1 * 2 ^ k % 2 ^ 64)
         → x ≡ ofInt binary64 (pos (m / 2 ^ k * 2 ^ k % 2 ^ 64)) → y ≡ ofInt binary64 (pos (boolByte t * 2 ^ k % 2 ^ 64)) → HasValue (add binary64 x y) false (pickMag (float p 0) r m) 1
-    many-digits r t x y e ex ey =
+    many-bits r t x y e ex ey =
         subst (λ (z : Float). HasValue z false (pickMag (float p 0) r m) 1)
         (sym (ap₂ (add binary64) (ex ∙ ap (λ (z : ℕ). ofInt binary64 (pos z)) kept-is) (ey ∙ ap (λ (z : ℕ). ofInt binary64 (pos z)) (added t))))
         (sum-is r t (e ∙ ap₂ (λ (i j : ℕ). stepsUp r (m / 2 ^ k) i j) rest-is unit-is))

@@ -31,17 +31,17 @@ no-rest m j k h =
     ∙ ap (λ (x : ℕ). x % 2 ^ j) (sym (mul-assoc m (2 ^ (k - j)) (2 ^ j)))
     ∙ mul-mod-left (m * 2 ^ (k - j)) (2 ^ j)
 
--- m has no more digits than the grid keeps
-pub pick-few-digits : (p s : ℕ) (r : RoundingMode) (m k : ℕ) → s ≤ k → size m ≤ p → pickMag (float p s) r (m * 2 ^ k) ≡ m * 2 ^ k
-pick-few-digits p s r m k h l = pick-whole-units (float p s) r (m * 2 ^ k) (no-rest m (max s (size (m * 2 ^ k) - p)) k (least (size (m * 2 ^ k)) (size-le (m * 2 ^ k) (size m + k) (shl-lt (size m) k (size-lt m)))))
+-- m has no more bits than the grid keeps
+pub pick-few-bits : (p s : ℕ) (r : RoundingMode) (m k : ℕ) → s ≤ k → size m ≤ p → pickMag (float p s) r (m * 2 ^ k) ≡ m * 2 ^ k
+pick-few-bits p s r m k h l = pick-whole-units (float p s) r (m * 2 ^ k) (no-rest m (max s (size (m * 2 ^ k) - p)) k (least (size (m * 2 ^ k)) (size-le (m * 2 ^ k) (size m + k) (shl-lt (size m) k (size-lt m)))))
   where
     least : (z : ℕ) → z ≤ size m + k → max s (z - p) ≤ k
     least z b = omega (arith, h, l)
 
--- m's digits above the grid's precision, stepped by those below
-pub pick-many-digits : (p : ℕ) (r : RoundingMode) (m k : ℕ) → p + k ≡ size m → pickMag (float p 0) r m ≡ step r (m / 2 ^ k) (m % 2 ^ k) (2 ^ k) * 2 ^ k
+-- m's bits above the grid's precision, stepped by those below
+pub pick-many-bits : (p : ℕ) (r : RoundingMode) (m k : ℕ) → p + k ≡ size m → pickMag (float p 0) r m ≡ step r (m / 2 ^ k) (m % 2 ^ k) (2 ^ k) * 2 ^ k
 unfolding pickMag
-pick-many-digits p r m k h = ap (λ (z : ℕ). step r (m / 2 ^ z) (m % 2 ^ z) (2 ^ z) * 2 ^ z) (unit (size m) h)
+pick-many-bits p r m k h = ap (λ (z : ℕ). step r (m / 2 ^ z) (m % 2 ^ z) (2 ^ z) * 2 ^ z) (unit (size m) h)
   where
     unit : (z : ℕ) → p + k ≡ z → max 0 (z - p) ≡ k
     unit z h = omega arith
@@ -52,12 +52,12 @@ pick-scale p s r m k h = cut p (size m)
     (λ (l : p < size m).
     let j = size m - p in
     let c : step r (m / 2 ^ j) (m % 2 ^ j) (2 ^ j) * 2 ^ (j + k) ≡ pickMag (float p 0) r m * 2 ^ k =
-    ap (λ (x : ℕ). step r (m / 2 ^ j) (m % 2 ^ j) (2 ^ j) * x) (pow-add 2 j k) ∙ sym (mul-assoc (step r (m / 2 ^ j) (m % 2 ^ j) (2 ^ j)) (2 ^ j) (2 ^ k)) ∙ ap (λ (x : ℕ). x * 2 ^ k) (sym (pick-many-digits p r m j (omega arith))) in
+    ap (λ (x : ℕ). step r (m / 2 ^ j) (m % 2 ^ j) (2 ^ j) * x) (pow-add 2 j k) ∙ sym (mul-assoc (step r (m / 2 ^ j) (m % 2 ^ j) (2 ^ j)) (2 ^ j) (2 ^ k)) ∙ ap (λ (x : ℕ). x * 2 ^ k) (sym (pick-many-bits p r m j (omega arith))) in
     pick-shift (float p s) r m k (some m l) (omega arith)
     ∙ ap (λ (z : ℕ). step r (m / 2 ^ (z - k)) (m % 2 ^ (z - k)) (2 ^ (z - k)) * 2 ^ z) (unit (size m) l)
     ∙ ap (λ (z : ℕ). step r (m / 2 ^ z) (m % 2 ^ z) (2 ^ z) * 2 ^ (j + k)) (over j)
     ∙ c)
-    (λ (l : size m ≤ p). pick-few-digits p s r m k h l ∙ ap (λ (x : ℕ). x * 2 ^ k) (sym (at-one l)))
+    (λ (l : size m ≤ p). pick-few-bits p s r m k h l ∙ ap (λ (x : ℕ). x * 2 ^ k) (sym (at-one l)))
   where
     some : (m : ℕ) → p < size m → 0 < m
     some m l = pos-of-ne-zero (λ (e : m ≡ 0). omega (arith, size-le m 0 (omega arith)))
@@ -69,7 +69,7 @@ pick-scale p s r m k h = cut p (size m)
     over j = omega arith
 
     at-one : size m ≤ p → pickMag (float p 0) r m ≡ m
-    at-one l = subst (λ (z : ℕ). pickMag (float p 0) r z ≡ z) (one m) (pick-few-digits p 0 r m 0 (omega arith) l)
+    at-one l = subst (λ (z : ℕ). pickMag (float p 0) r z ≡ z) (one m) (pick-few-bits p 0 r m 0 (omega arith) l)
       where
         one : (m : ℕ) → m * 2 ^ 0 ≡ m
         one m = omega arith
@@ -77,10 +77,3 @@ pick-scale p s r m k h = cut p (size m)
 -- ---- with a sign
 pub pick-scale-signed : (p s : ℕ) → 2 ≤ p → (r : RoundingMode) (neg : Bool) (m k : ℕ) → s ≤ k → pick (float p s) r (signed neg (m * 2 ^ k)) ≡ signed neg (pickMag (float p 0) (ruleFor neg r) m * 2 ^ k)
 pick-scale-signed p s two r neg m k h = pick-signed (float p s) two r neg (m * 2 ^ k) ∙ ap (signed neg) (pick-scale p s (ruleFor neg r) m k h)
-
--- an integer's pick is the same whatever the smallest spacing, as long as that is not above 1
-pub pick-same-spacing : (p s t k : ℕ) → 2 ≤ p → s ≤ k → t ≤ k → (r : RoundingMode) (neg : Bool) (m : ℕ) → pick (float p s) r (signed neg (m * 2 ^ k)) ≡ pick (float p t) r (signed neg (m * 2 ^ k))
-pick-same-spacing p s t k two hs ht r neg m = pick-scale-signed p s two r neg m k hs ∙ sym (pick-scale-signed p t two r neg m k ht)
-
-pub integer-pick-same-spacing : (p : ℕ) → 2 ≤ p → (r : RoundingMode) (neg : Bool) (m : ℕ) → pick (float p 0) r (signed neg (m * 2 ^ 1074)) ≡ pick (float p 925) r (signed neg (m * 2 ^ 1074))
-integer-pick-same-spacing p two = pick-same-spacing p 0 925 1074 two (omega arith) (omega arith)

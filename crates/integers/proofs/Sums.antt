@@ -75,11 +75,3 @@ add-exact f q p k E h = subst (λ (z : Float). HasValue z false ((q + p) * 2 ^ k
     is : add f (ofInt f (pos (q * 2 ^ k))) (ofInt f (pos (p * 2 ^ k))) ≡ round f false ((q + p) * 2 ^ k) 1
     is = add-whole f (ofInt f (pos (q * 2 ^ k))) (ofInt f (pos (p * 2 ^ k))) (q * 2 ^ k) (p * 2 ^ k) (ofInt-exact f q k E (omega arith)) (ofInt-exact f p k E (omega arith))
         ∙ ap (λ (z : ℕ). round f false z 1) (sym (add-mul q p (2 ^ k)))
-
--- ---- the sign, put on by negation
-pub negated : (x : Float) (n d : ℕ) → HasValue x false n d → HasValue (neg x) true n d
-unfolding neg
-negated nan n d h = absurd h
-negated (inf s) n d h = absurd h
-negated (fin true m e) n d h = absurd (true≢false (h .0))
-negated (fin false m e) n d h = (refl, h .1)

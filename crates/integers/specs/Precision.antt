@@ -7,7 +7,7 @@ use lib.Ieee.Exact.{HasValue}
 use Rattle.grid.specs.declared.RoundingMode.{RoundingMode}
 use Rattle.grid.specs.Round.{step}
 
--- "for at most 53 significant bits": a precision that has even and odd numbers, and that an f64 holds
+-- "for at most 53 significant bits": a precision that has even and odd numbers, and that an f64 has
 pub record Precision (p : ℕ) : Type 0 where
   pub two : 2 ≤ p
   pub at-most-53 : p ≤ 53

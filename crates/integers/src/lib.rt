@@ -11,7 +11,7 @@ ghost use Rattle.integers.specs.Magnitude.{IntegerPattern, magnitudeOf};
 ghost use Rattle.integers.specs.Precision.{Precision, Exactly, stepsUp};
 use grid::RoundingMode;
 
-// A whole number: its size, and whether it lies below zero.
+// A whole number by its magnitude, and whether it lies below zero.
 pub struct Integer {
     pub negative: bool,
     pub magnitude: u64,

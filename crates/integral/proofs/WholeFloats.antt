@@ -1,18 +1,18 @@
 -- A number of a float format rounded to a whole number is a number of that format, and has the pattern of the pick.
 use mathlib.Core.Path.{_≡_, refl, sym, ap, ap₂, subst, _∙_}
 use mathlib.Core.Bool.{Bool, false}
-use mathlib.Core.List.{List, [], _∷_}
+use mathlib.Core.List.{[], _∷_}
 use mathlib.Core.Logic.{⊎-elim}
-use Prim.Native.Nat.{ℕ, _+_, _-_, _*_, _/_, _%_, _^_, _≤_, _<_}
-use native.Mathlib.Nat.{le-of-eq, le-of-lt, le-of-mul-le-mul-right, le-refl, le-trans, lt-of-le-of-lt, lt-of-lt-of-le, mod-eq-of-lt, mul-le-mul-right}
+use Prim.Native.Nat.{ℕ, _+_, _-_, _*_, _%_, _^_, _≤_, _<_}
+use native.Mathlib.Nat.{le-of-eq, le-of-lt, le-of-mul-le-mul-right, le-refl, le-trans, lt-of-le-of-lt, mod-eq-of-lt, mul-le-mul-right}
 use native.Mathlib.Omega.{arith}
 use lib.Dec.{lit<, lit≤}
-use lib.IntN.{ℤ, pos, natAbs}
+use lib.IntN.{ℤ, natAbs}
 use lib.Pow.{pow-add, pow-mono, pow-pos, shl-lt}
 use denote.Enum.Declared.{tagOf}
 use types.Run.{OneOf}
 use Rattle.grid.specs.Grid.{OnMag, float, whole}
-use Rattle.grid.specs.Round.{pick, pickMag, ruleFor, signed}
+use Rattle.grid.specs.Round.{pickMag, ruleFor, signed}
 use Rattle.grid.specs.declared.RoundingMode.{RoundingMode}
 use Rattle.grid.specs.declared.RoundingMode.the-variants.{TowardsZero}
 use Rattle.grid.proofs.Kept.{pick-exact, pick-signed}

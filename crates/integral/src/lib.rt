@@ -10,7 +10,7 @@ use floats::Class;
 use floats::Scaled;
 use grid::RoundingMode;
 
-// A finite magnitude rounded to a whole number; from the exponent of 1 on it is whole already.
+// A finite magnitude rounded to a whole number; from the exponent 1074 on, where the unit is 1, it is whole already.
 fn integral(x: Scaled, mode: RoundingMode, negative: bool) -> Scaled
     requires { ⌜ Canonical x ⌝ }
     ensures { λ r. ⌜ r ≡ scaledOf (pickMag (whole 1074) (ruleFor negative mode) (x .significand * 2 ^ x .exponent)) ⌝ }

@@ -1,4 +1,4 @@
--- The listed kinds: what the row of a code holds, and that it gives its kind back.
+-- The listed kinds: what the row of a code has, and that it gives its kind back.
 use mathlib.Core.Path.{_≡_, refl, sym, ap, subst}
 use mathlib.Core.Bool.{Bool, true, false}
 use mathlib.Core.Logic.{inl, inr}

@@ -22,7 +22,7 @@ use Rattle.report.specs.Report.{report}
 use Rattle.report.specs.Room.{ReportFits}
 use Rattle.listing.specs.Listing.{reportOf, chunkOf}
 use Rattle.bytes_le.specs.Bytes.{Width}
-use Rattle.listing.specs.Parts.{CallFits}
+use Rattle.listing.specs.Layouts.{CallFits}
 use Rattle.listing.proofs.Unchanged.{position-counted, same-report}
 
 -- ---- the widths of listed kinds

@@ -21,7 +21,7 @@ use Rattle.chunk.proofs.Exits.{listed-codes}
 use Rattle.listing.specs.declared.Layout.{Layout}
 use Rattle.report.specs.Report.{refusedLine}
 use Rattle.listing.specs.Listing.{entries, keysEnd, mapEnd, targets, elements, call, chunkOf, reportOf, refusalOf, listingOf}
-use Rattle.listing.specs.Parts.{HeadIn, CallFits, layoutOf}
+use Rattle.listing.specs.Layouts.{HeadIn, CallFits, layoutOf}
 use Rattle.listing.proofs.Calls.{row-most}
 
 -- ---- where the parts start

@@ -4,7 +4,7 @@ ghost use Prim.Native.Nat.{_≤_};
 ghost use lib.ListN.{length};
 ghost use Rattle.text.specs.Wrote.{Wrote};
 ghost use Rattle.listing.specs.Listing.{chunkOf, reportOf, refusalOf, listingOf, Listed};
-ghost use Rattle.listing.specs.Parts.{HeadIn, CallFits, layoutOf};
+ghost use Rattle.listing.specs.Layouts.{HeadIn, CallFits, layoutOf};
 
 // The places of an input where the targets and the elements start.
 struct Layout {
@@ -112,7 +112,7 @@ pub type Work = [u8; 65488];
 // Room for a first line of 18 bytes and 8,186 lines of 17.
 pub type Lines = [u8; 139180];
 
-// Lists an input: the listing stands at the start of out, whose other bytes stay, and its length is returned. What work then holds is
+// Lists an input: the listing stands at the start of out, whose other bytes stay, and its length is returned. What then stands in work is
 // left free.
 pub fn list(input: &[u8], work: &mut Work, out: &mut Lines) -> usize
     ensures { λ r. ⌜ Listed (now (input .entry)) (now (out .entry)) r (now (out .exit)) ⌝ }

@@ -1,4 +1,4 @@
--- Internal: what an element comes to in a kind that no map entry matches, but for the fields of a refusal.
+-- Internal: what an element that no map entry matches comes to in a kind, but for the fields of a refusal.
 use mathlib.Core.Bool.{Bool, cond}
 use Prim.Native.Nat.{ℕ, _+_, _*_, _^_}
 use lib.Dec.{ltb}
@@ -27,12 +27,13 @@ fitOf (O.NanOrInf v) = NotFinite
 fitOf (O.OutOfRange v lo hi) = OutOfRange
 fitOf (O.FloatOutOfRange v lo hi) = OutOfRange
 
--- the bits below a sign in a float kind: those of an infinity or more lie past the range
+-- bits that reach an infinity's, by the range choice
 abbrev pub overrunFit : ℕ → ℕ → Bool → OutOfRangeMode → Fit
 overrunFit p w neg None = OutOfRange
 overrunFit p w neg Clamp = Pattern (infinity p w neg)
 overrunFit p w neg Wrap = OutOfRange
 
+-- the bits below a sign in a float kind: those of an infinity or more lie past the range
 abbrev pub fitBits : ℕ → ℕ → Bool → OutOfRangeMode → ℕ → Fit
 fitBits p w neg range b = cond (ltb b (infBits p w)) (Pattern (withSign (w + p) neg b)) (overrunFit p w neg range)
 

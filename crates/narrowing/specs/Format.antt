@@ -1,7 +1,7 @@
 -- Internal: the formats that are narrower than f64.
 use mathlib.Core.Path.{_≡_}
 use mathlib.Core.Bool.{cond}
-use Prim.Native.Nat.{ℕ, _+_, _-_, _*_, _/_, _^_, _≤_, _<_}
+use Prim.Native.Nat.{ℕ, _-_, _*_, _/_, _^_, _≤_, _<_}
 use lib.Dec.{eqb}
 
 -- p significant bits and the smallest spacing 2^s, which begins above the exponents that f64 has no normal numbers for

@@ -1,4 +1,4 @@
-// A float rounded once to a narrower format: a finite magnitude, an infinity and a NaN, for any precision and any exponent field.
+// A float rounded once to a narrower format: a finite magnitude, an infinity and a NaN, for any format narrower than f64.
 ghost use mathlib.Core.Path.{_≡_};
 ghost use Prim.Native.Nat.{_*_, _^_, _<_};
 ghost use Rattle.grid.specs.Grid.{float};
@@ -96,7 +96,7 @@ pub fn narrow_f32(x: Float, mode: RoundingMode, range: OutOfRangeMode) -> Fit
 }
 
 // The bits below the sign of a number that f64 has as `bits`, in a format of p significant bits and the smallest spacing 2^s where the number is 0
-// or normal: the exponent field counts from another start, and the low bits are 0.
+// or normal: the exponent field counts from another start, and the low bits are dropped; of a number with p significant bits they are 0.
 fn rebias(bits: u64, p: u32, s: u64) -> u64
     requires { ⌜ Narrower p s × Rebiasable p s bits ⌝ }
     ensures { λ r. ⌜ r ≡ rebiased p s bits ⌝ }

@@ -9,7 +9,7 @@ use lib.Pow.{pow-pos, pow-add}
 use Rattle.patterns.specs.Float.{fieldMag, bitsMag}
 use Rattle.grid.proofs.Neighbours.{cut, pow-twice-pred}
 
--- bits given as field and digits
+-- bits given as field and fraction
 fields : (p s x t b : ℕ) → t < 2 ^ (p - 1) → b ≡ x * 2 ^ (p - 1) + t → bitsMag p s b ≡ fieldMag p s x t
 unfolding bitsMag
 fields p s x t b h e = ap₂ (fieldMag p s) (ap (λ (z : ℕ). z / 2 ^ (p - 1)) e ∙ digits-div x h) (ap (λ (z : ℕ). z % 2 ^ (p - 1)) e ∙ digits-mod x h)
@@ -40,9 +40,6 @@ zero-bits p s two = ap (bitsMag p s) (sym (none (2 ^ (p - 1)))) ∙ encode p s 0
   where
     none : (h : ℕ) → 0 * h + 0 ≡ 0
     none h = omega arith
-
-pub power-bits : (p s : ℕ) → 2 ≤ p → (k : ℕ) → bitsMag p s (suc k * 2 ^ (p - 1)) ≡ 2 ^ (p - 1 + (k + s))
-power-bits p s two k = ap (bitsMag p s) (suc-mul k (2 ^ (p - 1))) ∙ encode p s k (2 ^ (p - 1)) (omega arith) (omega (arith, pow-twice-pred p (omega arith))) (λ _. omega arith) ∙ sym (pow-add 2 (p - 1) (k + s))
 
 -- bits whose exponent field is not 0
 pub normal-bits : (p s x y : ℕ) → x / 2 ^ (p - 1) ≡ suc y → bitsMag p s x ≡ (2 ^ (p - 1) + x % 2 ^ (p - 1)) * 2 ^ (y + s)

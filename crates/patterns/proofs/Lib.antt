@@ -5,3 +5,4 @@ pub mod Floats
 pub mod Integers
 pub mod Ieee
 pub mod AnyKind
+pub mod IeeeBits

@@ -14,7 +14,7 @@ use Rattle.grid.proofs.Kept.{size-shift, pick-shift}
 use Rattle.patterns.proofs.Encode.{encode}
 use Rattle.grid.proofs.Step.{step-ge, step-le}
 
--- ---- the kept digits
+-- ---- the kept bits
 module _ (p s m e : ℕ) (two : 2 ≤ p) (some : 0 < m) (over : e ≤ max s (size m + e - p)) where
   same : m * 2 ^ e / 2 ^ max s (size (m * 2 ^ e) - p) ≡ m / 2 ^ (max s (size m + e - p) - e)
   same =

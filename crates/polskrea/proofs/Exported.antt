@@ -6,7 +6,7 @@ use Rattle.kinds.specs.declared.Answer.{Answer}
 use Rattle.kinds.specs.Answer.{numberOf}
 use Rattle.cast_spec.specs.Chunk.{Inputs, callOf, resultAt}
 use Rattle.cast_spec.specs.Demand3.{Contract, Demand3}
-use Rattle.polskrea.specs.Entry.{fieldsOf, Returned}
+use Rattle.polskrea.specs.Returned.{fieldsOf, Returned}
 
 pub exported : (I : Inputs) (a : Answer) (n : ℕ) (words d : List ℕ) → Contract I a d → n ≡ numberOf a → words ≡ fieldsOf a → Returned I n words d
 exported I a n words d c e f =

@@ -1,8 +1,8 @@
-// The library's entries for C and for Rust: the chunk call over bytes, and the version.
+// The library's calls for C and for Rust: the chunk call over bytes, and the version.
 ghost use mathlib.Core.Path.{_≡_};
 ghost use Rattle.cast_spec.specs.Chunk.{inputs};
 ghost use Rattle.kinds.specs.Answer.{numberOf};
-ghost use Rattle.polskrea.specs.Entry.{fieldsOf, Returned, version};
+ghost use Rattle.polskrea.specs.Returned.{fieldsOf, Returned, version};
 use kinds::Answer;
 
 // The fields of an answer, which an exported call leaves as four numbers.
@@ -61,7 +61,7 @@ pub extern "C" fn polskrea_convert(
     answered(a, answer)
 }
 
-// The version of the entries above.
+// The version of the calls above.
 #[no_mangle]
 pub extern "C" fn polskrea_version() -> u32
     ensures { λ r. ⌜ r ≡ version ⌝ }

@@ -41,7 +41,7 @@ use Rattle.kinds.specs.declared.Answer.{Answer}
 use Rattle.kinds.specs.Answer.{numberOf}
 use Rattle.typed.proofs.Conversions.{Pair, ended, clauses, Converts}
 use Rattle.polskrea.proofs.Exported.{exported}
-use Rattle.polskrea.specs.Entry.{fieldsOf}
+use Rattle.polskrea.specs.Returned.{fieldsOf}
 use Rattle.polskrea_typed.specs.Exported.{Exported}
 
 -- the caller's four words

@@ -5,7 +5,7 @@ use Rattle.patterns.specs.Kind.{width}
 use Rattle.kinds.specs.Codes.{kindOf}
 use Rattle.cast_spec.specs.Element.{Entry}
 use Rattle.typed.specs.Typed.{typedInputs, bytesOf}
-use Rattle.polskrea.specs.Entry.{Returned}
+use Rattle.polskrea.specs.Returned.{Returned}
 
 -- the patterns of source, destination and entries, the number and the words that come back, and the destination's patterns at exit
 abbrev pub Exported : ℕ → ℕ → List ℕ → List ℕ → List Entry → ℕ → ℕ → ℕ → List ℕ → List ℕ → Type 0

@@ -1,4 +1,4 @@
--- A step is a quotient: what is added first depends on the rule and, for nearest-even, on the last kept digit.
+-- A step is a quotient: what is added first depends on the rule and, for nearest-even, on the last kept bit.
 use mathlib.Core.Path.{_≡_, subst, sym, ap, _∙_}
 use mathlib.Core.Bool.{Bool, true, false}
 use Prim.Native.Nat.{ℕ, suc, _+_, _-_, _*_, _/_, _%_, _^_, _≤_, _<_}

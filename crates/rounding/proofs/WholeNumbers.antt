@@ -1,4 +1,4 @@
--- A finite magnitude rounded to a whole number, as a program holds it: its count modulo 2^64, and whether it exceeds 64 bits.
+-- A finite magnitude rounded to a whole number, as a program has it: its count modulo 2^64, and whether it exceeds 64 bits.
 use mathlib.Core.Path.{_≡_, refl, sym, ap, ap₂, _∙_}
 use mathlib.Core.Bool.{Bool, false, true}
 use Prim.Native.Nat.{min, ℕ, _+_, _-_, _*_, _/_, _%_, _^_, _≤_, _<_}

@@ -25,6 +25,6 @@ pub record Droppable (m j : ℕ) : Type 0 where
 abbrev pub unitsOf : ℕ → RoundingMode → ℕ → ℕ
 unitsOf K r n = pickMag (whole K) r n / 2 ^ K
 
--- so many whole numbers the pick of a magnitude n is, as a program holds it
+-- so many whole numbers the pick of a magnitude n is, as a program has it
 abbrev pub wholeOf : RoundingMode → ℕ → Whole
 wholeOf r n = record { magnitude = unitsOf 1074 r n % 2 ^ 64; exceeds = leb (2 ^ 64) (unitsOf 1074 r n) }

@@ -277,7 +277,7 @@ fn answered(number: u8, answer: [u64; 4]) -> Result<(), CastError> {
     })
 }
 
-/// The version of the library's entries: 1, for 0.1.
+/// The version of the library's calls: 1, for 0.1.
 pub fn version() -> u32 {
     // SAFETY: it takes nothing and returns a number.
     unsafe { polskrea_version() }

@@ -1,7 +1,7 @@
 -- `bytes_le::read_le` meets its contract: each arm reads the whole of the part that it takes.
 use mathlib.Core.Path.{_≡_, _∙_}
 use denote.Ref.{now}
-use Rattle.bytes_le.proofs.Parts.{last-width, part-length, read-part}
+use Rattle.bytes_le.proofs.LentBytes.{last-width, part-length, read-part}
 use borrow.Author.Needs.{needs}
 use Rattle.bytes_le.proofs.read_le.Statement.{statement}
 use Rattle.bytes_le.proofs.read_le.Tie as tie

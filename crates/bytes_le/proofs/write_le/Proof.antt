@@ -1,7 +1,7 @@
 -- `bytes_le::write_le` meets its contract: each arm fills the whole of the part that it lends.
 use mathlib.Core.Path.{_≡_, _∙_}
 use denote.Ref.{now}
-use Rattle.bytes_le.proofs.Parts.{last-width, part-length, written-part}
+use Rattle.bytes_le.proofs.LentBytes.{last-width, part-length, written-part}
 use borrow.Author.Needs.{needs}
 use Rattle.bytes_le.proofs.write_le.Statement.{statement}
 use Rattle.bytes_le.proofs.write_le.Tie as tie

@@ -1,5 +1,5 @@
 -- `element::convert_int_to_float` meets its contract: the f64 holds the pick, and its bits are rebiased with nothing rounded.
-use mathlib.Core.Path.{_≡_, sym, ap, subst, _∙_}
+use mathlib.Core.Path.{_≡_, sym, ap, _∙_}
 use Prim.Native.Nat.{ℕ, _*_, _^_}
 use native.Mathlib.Omega.{arith}
 use lib.Dec.{lit<, lit≤}

@@ -7,8 +7,6 @@ use mir.Val.{toZ, ofZ}
 use borrow.Author.Needs.{needs}
 use Rattle.patterns.specs.Pattern.{asF64}
 use Rattle.kinds.specs.Row.{kindIn, FormatRow}
-use Rattle.kinds.specs.declared.Fit.{Fit}
-use Rattle.kinds.specs.declared.Fit.the-variants as F
 use Rattle.kinds.specs.declared.Format.{Format}
 use Rattle.kinds.specs.declared.Outcome.the-variants.{NanOrInf, OutOfRange}
 use Rattle.element.specs.Convert.{CanonicalElement, elementF64, filled, pastRange}

@@ -1,6 +1,6 @@
 -- `floats::write_f64` meets its contract: the sign's bit over the bits of the class.
 use mathlib.Core.Path.{sym, ap, subst, _∙_}
-use Prim.Native.Nat.{ℕ, _+_}
+use Prim.Native.Nat.{_+_}
 use native.Mathlib.Nat.{add-assoc}
 use native.Mathlib.Omega.{arith}
 use lib.Dec.{lit<, lit≤}

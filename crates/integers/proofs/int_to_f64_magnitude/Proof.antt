@@ -1,7 +1,7 @@
 -- `integers::int_to_f64_magnitude` meets its contract: a float that is exactly the pick has the bits of the pick.
 use mathlib.Core.Bool.{false}
 use borrow.Author.Needs.{needs}
-use Rattle.integers.proofs.Patterns.{whole-bits, valued-no-nan}
+use Rattle.patterns.proofs.IeeeBits.{whole-bits, valued-no-nan}
 use Rattle.integers.proofs.int_to_f64_magnitude.Statement.{statement}
 use Rattle.integers.proofs.int_to_f64_magnitude.Tie as tie
 

@@ -7,7 +7,7 @@ use lib.Ieee.Exact.{HasValue}
 use borrow.Author.Needs.{needs}
 use Rattle.grid.specs.Grid.{float}
 use Rattle.grid.specs.Round.{pickMag, ruleFor}
-use Rattle.integers.proofs.Rounded.{few-digits, dropped, shift-lt, kept-le, rest-lt, many-digits}
+use Rattle.integers.proofs.Rounded.{few-bits, dropped, shift-lt, kept-le, rest-lt, many-bits}
 use Rattle.integers.proofs.round_int_to_precision.Statement.{statement}
 use Rattle.integers.proofs.round_int_to_precision.Tie as tie
 
@@ -18,7 +18,7 @@ returns c =
     let r = ruleFor (a .negative) (a .mode) in
     record {
       value = subst (λ (x : Float). HasValue x false (pickMag (float (a .precision) 0) r (a .magnitude)) 1) (sym (c .nearest-u64-to-f64 .ensures))
-          (few-digits (a .precision) (a .magnitude) (t .before .pre) r (omega (arith, t .significant-bits .ensures, c .before .if1 .taken)));
+          (few-bits (a .precision) (a .magnitude) (t .before .pre) r (omega (arith, t .significant-bits .ensures, c .before .if1 .taken)));
     }
 
 shr-q : tie.Need-shr-q
@@ -61,7 +61,7 @@ returns-2 c =
     let t = e .before in
     let a = t .before .args in
     record {
-      value = many-digits (a .precision) (a .magnitude) (t .before .pre) _ (dropped (a .precision) (t .significant-bits .result) (a .magnitude) (t .significant-bits .ensures) (e .if1 .left)) (omega arith) (ruleFor (a .negative) (a .mode)) (u .rounds-up .result) _ _ (u .rounds-up .ensures) (c .before .nearest-u64-to-f642 .ensures) (c .nearest-u64-to-f643 .ensures);
+      value = many-bits (a .precision) (a .magnitude) (t .before .pre) _ (dropped (a .precision) (t .significant-bits .result) (a .magnitude) (t .significant-bits .ensures) (e .if1 .left)) (omega arith) (ruleFor (a .negative) (a .mode)) (u .rounds-up .result) _ _ (u .rounds-up .ensures) (c .before .nearest-u64-to-f642 .ensures) (c .nearest-u64-to-f643 .ensures);
     }
 
 pub round-int-to-precision-spec : {M : Type 1} → statement M

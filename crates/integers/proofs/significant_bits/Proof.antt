@@ -1,7 +1,7 @@
 -- `integers::significant_bits` meets its contract: leading zeros and significant bits make 64.
 use native.Mathlib.Omega.{arith}
 use lib.Count.{leading-le}
-use Rattle.integers.proofs.Digits.{leading-size}
+use Rattle.integers.proofs.SignificantBits.{leading-size}
 use Rattle.integers.proofs.significant_bits.Statement.{statement}
 use Rattle.integers.proofs.significant_bits.Tie as tie
 

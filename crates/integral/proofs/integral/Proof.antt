@@ -1,6 +1,6 @@
 -- `integral::integral` meets its contract: whole already, or the count of whole numbers normalized.
 use mathlib.Core.Path.{ap, subst, sym, _∙_}
-use Prim.Native.Nat.{ℕ, _*_, _^_, _<_}
+use Prim.Native.Nat.{_*_, _^_, _<_}
 use native.Mathlib.Omega.{arith}
 use borrow.Author.Needs.{needs}
 use Rattle.grid.specs.Round.{ruleFor}

@@ -1,8 +1,7 @@
 -- `integral::round_with_mode_f32` meets its contract: the sign over the bits of the whole number, which f32 has.
 use mathlib.Core.Path.{_≡_, ap, subst, sym, _∙_}
 use Prim.Native.Nat.{ℕ, _+_, _*_, _^_, _<_}
-use native.Mathlib.Nat.{le-refl, lt-trans}
-use native.Mathlib.Omega.{arith}
+use native.Mathlib.Nat.{lt-trans}
 use lib.Dec.{lit<, lit≤}
 use borrow.Author.Needs.{needs}
 use Rattle.grid.specs.Grid.{float, whole}

@@ -1,6 +1,5 @@
 -- `integral::round_with_mode_f64` meets its contract: the sign over the bits of the whole number.
 use mathlib.Core.Path.{ap, subst, sym, _∙_}
-use Prim.Native.Nat.{ℕ, _*_, _^_}
 use native.Mathlib.Nat.{le-refl}
 use native.Mathlib.Omega.{arith}
 use lib.Dec.{lit<, lit≤}
@@ -9,7 +8,6 @@ use Rattle.grid.specs.Round.{ruleFor}
 use Rattle.patterns.specs.Pattern.{withSign}
 use Rattle.floats.specs.Form.{Canonical, CanonicalClass, finiteBits}
 use Rattle.floats.specs.declared.Float.{Float}
-use Rattle.floats.specs.declared.Scaled.{Scaled}
 use Rattle.floats.proofs.Signs.{signed-sum, signed-fits}
 use Rattle.floats.proofs.Values.{f64-formed, scaled-bits}
 use Rattle.integral.proofs.WholeFloats.{own-grid, rounded-pattern, stays, whole-canonical}

@@ -1,5 +1,5 @@
 -- `narrowing::narrow` meets its contract: a finite float, an infinity and a NaN, each by its law.
-use mathlib.Core.Path.{_≡_, sym, ap, ap₂, subst, _∙_}
+use mathlib.Core.Path.{sym, ap, ap₂, subst, _∙_}
 use Prim.Native.Nat.{ℕ, _+_, _-_, _^_, _<_}
 use native.Mathlib.Nat.{lt-of-lt-of-le}
 use native.Mathlib.Omega.{arith}
@@ -9,7 +9,7 @@ use Rattle.patterns.specs.Pattern.{withSign}
 use Rattle.patterns.proofs.Floats.{inf-lt, nan-lt}
 use Rattle.kinds.specs.declared.Fit.the-variants.{Pattern}
 use Rattle.floats.specs.Form.{CanonicalClass}
-use Rattle.floats.specs.declared.Class.the-variants.{Finite, NotANumber}
+use Rattle.floats.specs.declared.Class.the-variants.{NotANumber}
 use Rattle.floats.proofs.Signs.{signed-sum, signed-fits}
 use Rattle.narrowing.proofs.Formats.{quiet-lt}
 use Rattle.narrowing.proofs.Fits.{number-fit, finite-fit, infinite-fit, nan-fit}

@@ -6,7 +6,7 @@ use mir.Val.{toZ, ofZ}
 use mir.Syntax.{w64}
 use borrow.Author.Needs.{needs}
 use Rattle.patterns.specs.Pattern.{lowBits}
-use Rattle.polskrea.specs.Entry.{fieldsOf}
+use Rattle.polskrea.specs.Returned.{fieldsOf}
 use Rattle.polskrea.proofs.fields.Tie as tie
 use Rattle.polskrea.proofs.fields.Statement.{statement}
 

@@ -1,6 +1,6 @@
 -- `replay::holds` is safe: the parts of a case lie within its body.
 use native.Mathlib.Omega.{arith}
-use Rattle.replay.proofs.Parts.{as-many}
+use Rattle.replay.proofs.Cases.{as-many}
 use borrow.Author.Needs.{needs}
 use Rattle.replay.proofs.holds.Statement.{statement}
 use Rattle.replay.proofs.holds.Tie as tie

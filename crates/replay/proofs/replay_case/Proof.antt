@@ -1,6 +1,6 @@
 -- `replay::replay_case` is safe: four parts of at most 256 bytes lie within the space that a body has.
 use native.Mathlib.Omega.{arith}
-use Rattle.replay.proofs.Parts.{as-many, three-of-four}
+use Rattle.replay.proofs.Cases.{as-many, three-of-four}
 use borrow.Author.Needs.{needs}
 use Rattle.replay.proofs.replay_case.Statement.{statement}
 use Rattle.replay.proofs.replay_case.Tie as tie

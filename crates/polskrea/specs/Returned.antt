@@ -29,6 +29,6 @@ pub record Returned (I : Inputs) (n : ℕ) (words : List ℕ) (d : List ℕ) : T
   pub bytes : d ≡ destinationOf I
   pub demand3 : Demand3 (callOf I) (answerOf I) (resultAt I d)
 
--- of these entries; 1 stands for 0.1
+-- of these calls; 1 stands for 0.1
 abbrev pub version : ℕ
 version = 1

@@ -1,25 +1,22 @@
 -- The bits of a finite float, `lib.Ieee.toBits`, are the pattern of its number and its sign, at a zero too. Once for both formats.
-use mathlib.Core.Path.{_≡_, refl, sym, ap, ap₂, subst, _∙_}
+use mathlib.Core.Path.{_≡_, refl, sym, ap, ap₂, _∙_}
 use mathlib.Core.Bool.{Bool, true, false, not, cond}
-use Prim.Native.Nat.{ℕ, zero, suc, _+_, _-_, _*_, _/_, _%_, _^_, _≤_, _<_, max}
+use Prim.Native.Nat.{ℕ, zero, suc, _+_, _-_, _*_, _/_, _^_, _≤_, max}
 use native.Mathlib.Nat.{mul-assoc, mul-one, mul-right-comm, mul-div-mul-right, mul-div-cancel, zero-mul}
 use native.Mathlib.Omega.{arith}
 use lib.Dec.{T}
-use lib.Ieee.{Float, nan, inf, fin, Format, binary32, binary64, prec, low, hid, top, up, down, size, isNan, neg, fits, toBits}
+use lib.Ieee.{Float, nan, inf, fin, Format, binary32, binary64, prec, low, hid, top, up, down, size, isNan, toBits}
 use lib.Ieee.Digits.{size-le}
 use lib.Ieee.Exact.{HasValue}
-use lib.Ieee.Bits.{toBits-lt}
-use lib.Ieee.Fits.{down-pos, neg-fits}
+use lib.Ieee.Fits.{down-pos}
 use lib.IntN.{ℤ}
-use mir.Val.{boolByte}
 use lib.Pow.{pow-pos, pow-add}
 use Rattle.grid.specs.Round.{signed}
 use Rattle.grid.proofs.Kept.{size-shift}
-use Rattle.patterns.specs.Kind.{binary, f64}
+use Rattle.patterns.specs.Kind.{binary}
 use Rattle.patterns.specs.Pattern.{withSign, magBits, patternOf}
 use Rattle.patterns.proofs.Floats.{abs-signed}
 use Rattle.patterns.proofs.Ieee.{kindFor}
-use Rattle.integers.proofs.Sums.{negated}
 
 -- the exponent of a format's smallest number, counted from 2^-1074
 abbrev pub spacing : Format → ℕ

@@ -1,4 +1,4 @@
--- How many binary digits a number has, by its leading zeros.
+-- How many significant bits a number has, by its leading zeros.
 use mathlib.Core.Path.{_≡_}
 use Prim.Native.Nat.{ℕ, _+_, _-_, _*_, _^_, _≤_, _<_}
 use native.Mathlib.Nat.{le-trans}
@@ -9,7 +9,7 @@ use lib.Ieee.{size}
 use lib.Ieee.Digits.{size-lt, size-le, size-reaches}
 use Rattle.grid.proofs.Neighbours.{cut, pow-twice-pred}
 
--- a number of z digits is at least half of 2 ^ z, but for 0
+-- a number of z bits is at least half of 2 ^ z, but for 0
 reaches : (a : ℕ) → 2 ^ size a ≤ 2 * a + 1
 reaches a = cut 0 (size a)
     (λ (l : 0 < size a). omega (arith, size-reaches a (size a - 1) (omega arith), pow-twice-pred (size a) l))
