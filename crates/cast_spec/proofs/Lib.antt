@@ -12,3 +12,5 @@ pub mod Samples
 pub mod Witness
 pub mod Sentences
 pub mod NanBits
+pub mod Outcomes
+pub mod Filled

@@ -23,10 +23,12 @@ use Rattle.cast_spec.specs.Chunk.{answerNext, entriesFrom, Refuses}
 use Rattle.cast_spec.proofs.Steps.{no-map}
 use Rattle.cast_spec.proofs.Widths.{byte-patterns}
 use Rattle.mapping.specs.Map.{MapBytes}
-use Rattle.narrowing.specs.Fit.{fitOf}
-use Rattle.element.specs.Convert.{FormatPattern, filled, stepped, unmapped}
-use Rattle.element.specs.Route.{RouteRow, routeOf, sourceOf, targetOf}
-use Rattle.element.proofs.Filled.{stepped-filled}
+use Rattle.cast_spec.specs.Fit.{filled, fitOf, unmapped}
+use Rattle.element.specs.Element.{FormatPattern}
+use Rattle.steps.specs.Steps.{stepped}
+use Rattle.steps.specs.Route.{RouteRow, routeOf, sourceOf, targetOf}
+use Rattle.cast_spec.proofs.Filled.{outcome-filled}
+use Rattle.steps.proofs.Found.{found-outcome}
 use Rattle.chunk.specs.declared.Settings.{Settings}
 use Rattle.chunk.specs.Run.{MapReady, Ready, lookedUp, refusedAnswer, settingsFor, storedAt}
 
@@ -87,13 +89,14 @@ module _ (s : Settings) (ready : Ready s) where
     steps-are found f r e =
         e ∙ ap₂ (λ (j k : Kind). stepped found j k (s .rounding) (s .range) b) from-is to-is
         ∙ ap (λ (l : Lookup). stepped l (kindIn (s .source)) (kindIn (s .target)) (s .rounding) (s .range) b) f
+        ∙ found-outcome (lookedUp s keys targets b) (unmapped (kindIn (s .source)) (kindIn (s .target)) (s .rounding) (s .range) b)
         ∙ ap fitOf (sym outcome-is)
 
     -- with the fields of a refusal
     pub refused-is : (i : ℕ) (r : Fit) → r ≡ fitOf (outcomeOf (settingsFor s keys targets) b) → refusedAnswer s b i r ≡ answerNext (outcomeOf (settingsFor s keys targets) b) i Converted
     refused-is i r e = ap (λ (o : Outcome). answerNext o i Converted)
         (ap (filled (kindIn (s .target)) (asF64 (kindIn (s .source)) b)) (e ∙ ap fitOf outcome-is)
-        ∙ stepped-filled (lookedUp s keys targets b) (kindIn (s .source)) (kindIn (s .target)) (s .rounding) (s .range) b ∙ sym outcome-is)
+        ∙ outcome-filled (lookedUp s keys targets b) (kindIn (s .source)) (kindIn (s .target)) (s .rounding) (s .range) b ∙ sym outcome-is)
 
 -- ---- the map
 module _ (s : Settings) (keys targets : List ℕ) (map : MapReady s keys targets) (b : ℕ) (fits : b < 2 ^ bits (kindIn (s .source))) where

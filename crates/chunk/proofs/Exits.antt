@@ -23,8 +23,8 @@ use Rattle.patterns.specs.Kind.{Kind, bits, width}
 use Rattle.kinds.specs.Row.{formatOf, rowOf}
 use Rattle.cast_spec.specs.Element as E
 use Rattle.cast_spec.proofs.Widths.{listed-width, width-bits}
-use Rattle.element.specs.declared.Route.{Route}
-use Rattle.element.specs.Route.{routeOf}
+use Rattle.steps.specs.declared.Route.{Route}
+use Rattle.steps.specs.Route.{routeOf}
 use Rattle.kinds.specs.declared.Answer.the-variants as A
 
 -- ---- the settings that a program puts together

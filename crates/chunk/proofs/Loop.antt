@@ -15,11 +15,11 @@ use Rattle.chunk.specs.Run.{ConvertedAt, PlaceReady, RunReady, outcomes,
 use Rattle.kinds.specs.declared.Outcome.{Outcome}
 use Rattle.kinds.specs.declared.Fit.{Fit}
 use Rattle.kinds.specs.declared.Fit.the-variants.{Pattern}
-use Rattle.narrowing.specs.Fit.{fitOf}
+use Rattle.cast_spec.specs.Fit.{fitOf}
 use Rattle.cast_spec.specs.Chunk.{answerFrom, answerNext, bytesFrom, Refuses}
 use Rattle.bytes_le.specs.Bytes.{fromLe, patternAt, toLe, put}
 use Rattle.bytes_le.proofs.Sums.{length-toLe}
-use Rattle.narrowing.proofs.Outcomes.{stored-pattern}
+use Rattle.cast_spec.proofs.Outcomes.{stored-pattern}
 use Rattle.chunk.proofs.Elements.{not-stored, refused-is}
 use Rattle.kinds.specs.declared.Answer.the-variants as A
 use Rattle.cast_spec.specs.Element as E

@@ -18,9 +18,8 @@ use Rattle.kinds.specs.declared.Answer.the-variants.{Converted}
 use Rattle.cast_spec.specs.Element as E
 use Rattle.cast_spec.specs.Element.{lookupOf, outcomeOf}
 use Rattle.cast_spec.specs.Chunk.{entriesFrom, answerFrom, answerNext, bytesFrom}
-use Rattle.narrowing.specs.Fit.{fitOf}
-use Rattle.element.specs.Convert.{filled}
-use Rattle.element.specs.Route.{routeOf}
+use Rattle.cast_spec.specs.Fit.{filled, fitOf}
+use Rattle.steps.specs.Route.{routeOf}
 use Rattle.chunk.specs.declared.Settings.{Settings}
 
 -- the definitions' settings of those that a program holds, with the map's bytes

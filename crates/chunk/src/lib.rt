@@ -8,15 +8,15 @@ ghost use Rattle.bytes_le.specs.Bytes.{fromLe};
 ghost use Rattle.cast_spec.specs.Element.{outcomeOf};
 ghost use Rattle.cast_spec.specs.Chunk.{inputs};
 ghost use Rattle.cast_spec.specs.Demand3.{Contract};
-ghost use Rattle.narrowing.specs.Fit.{fitOf};
+ghost use Rattle.cast_spec.specs.Fit.{fitOf};
 ghost use Rattle.chunk.specs.Run.{settingsFor, settingsBy, lookedUp, ElementReady, PlaceReady, SourceReady, refusedAnswer, ConvertedAt, RunReady, Ran};
-use element::Route;
 use grid::RoundingMode;
 use kinds::Answer;
 use kinds::Fit;
 use kinds::Format;
 use kinds::Lookup;
 use kinds::OutOfRangeMode;
+use steps::Route;
 
 // What a call converts by: the formats of the two kinds and their route, the two rules, the bytes of a source and of a destination element, and the
 // map's entries.
@@ -59,7 +59,7 @@ fn steps(b: u64, keys: &[u8], targets: &[u8], s: Settings) -> Fit
     let rounding = s.rounding;
     let range = s.range;
     let found = look_up(b, keys, targets, s);
-    element::step(b, found, route, rounding, range)
+    steps::step(b, found, route, rounding, range)
 }
 
 // The element at the byte `input` of the source, stored at the byte `output` of the destination unless it is refused.
@@ -135,7 +135,7 @@ fn settings_of(from: u8, to: u8, rounding: u8, range: u8, keys: usize) -> Settin
     Settings {
         source: from_format,
         target: to_format,
-        route: element::route_of(from_format, to_format),
+        route: steps::route_of(from_format, to_format),
         rounding: kinds::rounding_of(rounding),
         range: kinds::range_of(range),
         sw: source.bytes,

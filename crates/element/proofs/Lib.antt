@@ -1,10 +1,3 @@
-pub mod Filled
-pub mod Rows
-pub mod FloatForms
-pub mod Range
+pub mod FloatRows
 pub mod Integers
-pub mod FloatToInt
-pub mod ToFloat
-pub mod IntToFloat
 pub mod Refusals
-pub mod Steps

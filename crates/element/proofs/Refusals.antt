@@ -9,8 +9,9 @@ use Rattle.kinds.specs.declared.IntegerFormat.{IntegerFormat}
 use Rattle.kinds.specs.declared.Format.{Format}
 use Rattle.kinds.specs.declared.Format.the-variants.{Integer, Float}
 use Rattle.kinds.specs.declared.Outcome.the-variants.{FloatOutOfRange, OutOfRange}
-use Rattle.element.specs.Convert.{CanonicalElement, FormatPattern, elementF64, elementOf, pastRange}
-use Rattle.element.proofs.FloatForms.{row-formed}
+use Rattle.cast_spec.specs.Fit.{pastRange}
+use Rattle.element.specs.Element.{CanonicalElement, FormatPattern, elementF64, elementOf}
+use Rattle.element.proofs.FloatRows.{row-formed}
 use Rattle.element.proofs.Integers.{as-f64-is}
 
 pub canonical-of : (f : Format) (b : ℕ) → FormatPattern b f → CanonicalElement (elementOf f b)

@@ -19,6 +19,7 @@ use Rattle.patterns.specs.Value.{Value, nan, inf, num, negative, valueOf}
 use Rattle.patterns.specs.Pattern.{asF64, asF64From, magBits, nanPattern, patternOf, withSign}
 use Rattle.patterns.proofs.AnyKind.{largest-bits, sign-of}
 use Rattle.patterns.proofs.Floats.{infinity-sign, mag-lt, nan-bits, number-of-format, signed-again, whole-units}
+use Rattle.floats.specs.declared.Float.{Float}
 use Rattle.floats.specs.Form.{CanonicalClass, classBits, classFor, f64Of, finiteBits, floatOf, scaledOf}
 use Rattle.floats.specs.declared.Class.the-variants.{Finite}
 use Rattle.floats.specs.declared.Scaled.{Scaled}
@@ -137,3 +138,7 @@ f32-formed b = formed 24 8 925 (lit≤ tt) (lit< tt) (lit≤ tt) f32-within-f64 
 
 pub f64-formed : (b : ℕ) → b < 2 ^ 64 → Formed f64 b
 f64-formed b fits = formed 53 11 0 (lit≤ tt) (lit< tt) (lit≤ tt) (le-refl _) b (own-nan b fits)
+
+-- what a pattern is read as is canonical
+pub read-canonical : (k : Kind) (b : ℕ) → Formed k b → (x : Float) → x ≡ floatOf k b → CanonicalClass (x .class)
+read-canonical k b formed x e = subst (λ (f : Float). CanonicalClass (f .class)) (sym e) (formed .canonical)

@@ -29,7 +29,8 @@ use Rattle.floats.specs.declared.Class.{Class}
 use Rattle.floats.specs.declared.Class.the-variants.{Finite, Infinite, NotANumber}
 use Rattle.floats.specs.declared.Float.{Float}
 use Rattle.floats.specs.declared.Scaled.{Scaled}
-use Rattle.narrowing.specs.Fit.{fitOf, overrunFit, fitBits, fitNumber, fitClass, fitFloat}
+use Rattle.cast_spec.specs.Fit.{fitOf, fitNumber}
+use Rattle.narrowing.specs.Fit.{overrunFit, fitBits, fitClass, fitFloat}
 
 -- ---- a pick in range is stored, and one past it goes as the range choice says
 module _ (k : Kind) (range : OutOfRangeMode) (v : ℕ) (neg : Bool) (y : ℤ) where

@@ -2,4 +2,3 @@ pub mod Carried
 pub mod Magnitudes
 pub mod Formats
 pub mod Fits
-pub mod Outcomes

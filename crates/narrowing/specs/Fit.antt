@@ -1,4 +1,4 @@
--- Internal: what an element that no map entry matches comes to in a kind, but for the fields of a refusal.
+-- Internal: what a float that no map entry matches comes to in a kind, but for the fields of a refusal.
 use mathlib.Core.Bool.{Bool, cond}
 use Prim.Native.Nat.{ℕ, _+_, _*_, _^_}
 use lib.Dec.{ltb}
@@ -14,18 +14,11 @@ use Rattle.kinds.specs.declared.Outcome.{Outcome}
 use Rattle.kinds.specs.declared.Outcome.the-variants as O
 use Rattle.kinds.specs.declared.Fit.{Fit}
 use Rattle.kinds.specs.declared.Fit.the-variants.{Pattern, NotFinite, OutOfRange}
-use Rattle.cast_spec.specs.Element.{ranged}
+use Rattle.cast_spec.specs.Fit.{fitNumber}
 use Rattle.floats.specs.Form.{f64Of}
 use Rattle.floats.specs.declared.Class.{Class}
 use Rattle.floats.specs.declared.Class.the-variants.{Finite, Infinite, NotANumber}
 use Rattle.floats.specs.declared.Float.{Float}
-
--- an outcome without its value and ends
-abbrev pub fitOf : Outcome → Fit
-fitOf (O.Stored b) = Pattern b
-fitOf (O.NanOrInf v) = NotFinite
-fitOf (O.OutOfRange v lo hi) = OutOfRange
-fitOf (O.FloatOutOfRange v lo hi) = OutOfRange
 
 -- bits that reach an infinity's, by the range choice
 abbrev pub overrunFit : ℕ → ℕ → Bool → OutOfRangeMode → Fit
@@ -36,10 +29,6 @@ overrunFit p w neg Wrap = OutOfRange
 -- the bits below a sign in a float kind: those of an infinity or more lie past the range
 abbrev pub fitBits : ℕ → ℕ → Bool → OutOfRangeMode → ℕ → Fit
 fitBits p w neg range b = cond (ltb b (infBits p w)) (Pattern (withSign (w + p) neg b)) (overrunFit p w neg range)
-
--- a number x of the sign neg; no fit has the value that stands as 0 here
-abbrev pub fitNumber : Kind → RoundingMode → OutOfRangeMode → Bool → ℤ → Fit
-fitNumber k rule range neg x = fitOf (ranged k range 0 neg (pick (gridOf k) rule x))
 
 abbrev pub fitClass : Kind → RoundingMode → OutOfRangeMode → Float → Class → Fit
 fitClass k rule range f (Finite x) = fitNumber k rule range (f .negative) (signed (f .negative) (x .significand * 2 ^ x .exponent))

@@ -3,7 +3,7 @@ use Prim.Native.Nat.{ℕ, _^_, _<_}
 use lib.Dec.{lit<, lit≤}
 use Rattle.kinds.proofs.Constants.{F32, F64, f32-row, f64-row}
 use Rattle.integers.specs.Magnitude.{IntegerPattern}
-use Rattle.element.specs.Convert.{FloatPattern}
+use Rattle.element.specs.Element.{FloatPattern}
 
 pub f32-pattern : (x : ℕ) → x < 2 ^ 32 → FloatPattern x F32
 f32-pattern x h = record { row = f32-row; fits = h }

@@ -15,9 +15,11 @@ use Rattle.kinds.specs.declared.Outcome.{Outcome}
 use Rattle.kinds.specs.declared.Outcome.the-variants.{Stored, NanOrInf, OutOfRange, FloatOutOfRange}
 use Rattle.kinds.proofs.Fit.{the-type}
 use Rattle.cast_spec.specs.Chunk.{answerNext, Refuses}
-use Rattle.narrowing.proofs.Outcomes.{stored-pattern, refuses}
-use Rattle.element.specs.Convert.{stepped, filled}
-use Rattle.element.proofs.Filled.{stepped-filled}
+use Rattle.cast_spec.specs.Fit.{filled, fitOf, unmapped}
+use Rattle.cast_spec.proofs.Outcomes.{stored-pattern, refuses}
+use Rattle.steps.specs.Steps.{stepped}
+use Rattle.cast_spec.proofs.Filled.{outcome-filled}
+use Rattle.steps.proofs.Found.{found-outcome}
 use Rattle.typed.specs.declared.State.{State}
 use Rattle.typed.specs.Loop.{stopped, stateAt, outcomeFor, nextState, storedIn}
 
@@ -25,6 +27,9 @@ use Rattle.typed.specs.Loop.{stopped, stateAt, outcomeFor, nextState, st
 module _ {D : Type 0} (of : ℕ → D) (ps : List ℕ) (ds : List D) (from to : ℕ) (s : State) (f : Lookup) (x : Fit) (e : x ≡ stepped f (kindOf from) (kindOf to) (s .rounding) (s .range) (s .x)) (r : State) where
   abbrev o : Outcome
   o = outcomeFor from to s f
+
+  fit-is : x ≡ fitOf o
+  fit-is = e ∙ found-outcome f (unmapped (kindOf from) (kindOf to) (s .rounding) (s .range) (s .x))
 
   abbrev After : List D → Type 0
   After ds′ = (r ≡ nextState o ps s) × (ds′ ≡ storedIn of o ds (s .at))
@@ -37,13 +42,13 @@ module _ {D : Type 0} (of : ℕ → D) (ps : List ℕ) (ds : List D) (from to : 
 
   pub stored : (b : ℕ) → x ≡ Pattern b → (y : D) → y ≡ of b → r ≡ stateAt (s .rounding) (s .range) ps (s .at + 1) → After (set ds (s .at) y)
   stored b p y g h =
-      let k : Stored b ≡ o = sym (stored-pattern o b (sym e ∙ p)) in
+      let k : Stored b ≡ o = sym (stored-pattern o b (sym fit-is ∙ p)) in
       (h ∙ ap (λ (z : Outcome). nextState z ps s) k, ap (set ds (s .at)) g ∙ ap (λ (z : Outcome). storedIn of z ds (s .at)) k)
 
   pub refused : OneOf (1 ∷ 2 ∷ []) (tagOf the-type x) → (w : Outcome) → w ≡ fill x → r ≡ ended w → After ds
   refused t w g h =
-      let k : w ≡ o = g ∙ ap fill e ∙ stepped-filled f (kindOf from) (kindOf to) (s .rounding) (s .range) (s .x) in
-      (h ∙ ap ended k ∙ ends o (refuses o x e t), kept o (refuses o x e t))
+      let k : w ≡ o = g ∙ ap fill fit-is ∙ outcome-filled f (kindOf from) (kindOf to) (s .rounding) (s .range) (s .x) in
+      (h ∙ ap ended k ∙ ends o (refuses o x fit-is t), kept o (refuses o x fit-is t))
     where
       ends : (z : Outcome) → Refuses z → ended z ≡ nextState z ps s
       ends (Stored b) n = absurd n

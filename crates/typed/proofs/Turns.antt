@@ -27,7 +27,7 @@ use Rattle.cast_spec.proofs.Widths.{kind-fits, width-pos}
 use Rattle.cast_spec.proofs.Refusals.{unknown, mismatch}
 use Rattle.cast_spec.proofs.Runs.{Run, done, refused, kept}
 use Rattle.cast_spec.specs.Element.{Entry, Settings, lookupOf, foundOr, outcomeOf}
-use Rattle.element.specs.Convert.{unmapped}
+use Rattle.cast_spec.specs.Fit.{unmapped}
 use Rattle.cast_spec.specs.Chunk.{Inputs, settingsOf, codesListed, mapWhole, bytesWhole, callOf, outcomeAt, answerNext, answerFrom, answerOf, bytesFrom, destinationOf, entriesFrom, Refuses}
 use Rattle.typed.specs.Loop.{going, stopped, stateAt, startOf, outcomeFor, nextState, storedIn}
 use Rattle.typed.specs.Typed.{bytesOf, typedInputs}

@@ -12,7 +12,7 @@ use Rattle.kinds.specs.declared.Outcome.{Outcome}
 use Rattle.kinds.specs.declared.Outcome.the-variants.{Stored, NanOrInf, OutOfRange, FloatOutOfRange}
 use Rattle.kinds.specs.declared.Answer.{Answer}
 use Rattle.kinds.specs.declared.Answer.the-variants as A
-use Rattle.element.specs.Convert.{unmapped}
+use Rattle.cast_spec.specs.Fit.{unmapped}
 use Rattle.cast_spec.specs.Element.{foundOr}
 use Rattle.cast_spec.specs.Chunk.{answerNext}
 use Rattle.typed.specs.declared.State.{State}

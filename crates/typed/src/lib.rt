@@ -192,7 +192,8 @@ fn step_f64_u8(src: &[f64], dst: &mut [u8], s: State, f: Lookup) -> State
     let at = s.at;
     let rounding = s.rounding;
     let range = s.range;
-    let fit = element::step_float_to_int(s.x, f, kinds::F64, kinds::U8, rounding, range);
+    let x = floats::read_f64(s.x);
+    let fit = steps::step_float_to_int(x, f, kinds::U8, rounding, range);
     if let Fit::Pattern(pattern) = fit {
         dst[at] = typed_values::u8_of(pattern);
         return state_f64(src, at + 1, rounding, range);
@@ -247,7 +248,8 @@ fn step_f64_i32(src: &[f64], dst: &mut [i32], s: State, f: Lookup) -> State
     let at = s.at;
     let rounding = s.rounding;
     let range = s.range;
-    let fit = element::step_float_to_int(s.x, f, kinds::F64, kinds::I32, rounding, range);
+    let x = floats::read_f64(s.x);
+    let fit = steps::step_float_to_int(x, f, kinds::I32, rounding, range);
     if let Fit::Pattern(pattern) = fit {
         dst[at] = typed_values::i32_of(pattern);
         return state_f64(src, at + 1, rounding, range);
@@ -302,7 +304,8 @@ fn step_f32_u8(src: &[f32], dst: &mut [u8], s: State, f: Lookup) -> State
     let at = s.at;
     let rounding = s.rounding;
     let range = s.range;
-    let fit = element::step_float_to_int(s.x, f, kinds::F32, kinds::U8, rounding, range);
+    let x = floats::read_f32(s.x as u32);
+    let fit = steps::step_float_to_int(x, f, kinds::U8, rounding, range);
     if let Fit::Pattern(pattern) = fit {
         dst[at] = typed_values::u8_of(pattern);
         return state_f32(src, at + 1, rounding, range);
@@ -357,7 +360,7 @@ fn step_f64_f32(src: &[f64], dst: &mut [f32], s: State, f: Lookup) -> State
     let at = s.at;
     let rounding = s.rounding;
     let range = s.range;
-    let fit = element::step_float_to_float(s.x, f, kinds::F64, kinds::F32, rounding, range);
+    let fit = steps::step_float_to_float(s.x, f, kinds::F64, kinds::F32, rounding, range);
     if let Fit::Pattern(pattern) = fit {
         dst[at] = typed_values::f32_of(pattern);
         return state_f64(src, at + 1, rounding, range);
@@ -412,7 +415,8 @@ fn step_i64_f32(src: &[i64], dst: &mut [f32], s: State, f: Lookup) -> State
     let at = s.at;
     let rounding = s.rounding;
     let range = s.range;
-    let fit = element::step_int_to_float(s.x, f, kinds::I64, kinds::F32, rounding, range);
+    let x = integers::int_magnitude(s.x, true, 64);
+    let fit = steps::step_int_to_float(x, f, kinds::F32, rounding, range);
     if let Fit::Pattern(pattern) = fit {
         dst[at] = typed_values::f32_of(pattern);
         return state_i64(src, at + 1, rounding, range);

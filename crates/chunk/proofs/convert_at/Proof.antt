@@ -5,9 +5,9 @@ use denote.Ref.{now}
 use borrow.Author.Needs.{needs}
 use Rattle.kinds.specs.declared.Fit.{Fit}
 use Rattle.cast_spec.specs.Element.{outcomeOf}
-use Rattle.narrowing.specs.Fit.{fitOf}
+use Rattle.cast_spec.specs.Fit.{fitOf}
 use Rattle.chunk.specs.Run.{settingsFor, storedAt}
-use Rattle.narrowing.proofs.Outcomes.{refuses}
+use Rattle.cast_spec.proofs.Outcomes.{refuses}
 use Rattle.chunk.proofs.Elements.{source-place, target-place, pattern-fits, not-stored}
 use Rattle.chunk.proofs.convert_at.Statement.{statement}
 use Rattle.chunk.proofs.convert_at.Tie as tie

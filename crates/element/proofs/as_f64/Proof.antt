@@ -1,7 +1,7 @@
 -- `element::as_f64` meets its contract: an integer's nearest f64, and a float's own.
 use mathlib.Core.Path.{sym, ap, subst, _∙_}
 use borrow.Author.Needs.{needs}
-use Rattle.element.specs.Convert.{CanonicalElement, elementF64}
+use Rattle.element.specs.Element.{CanonicalElement, elementF64}
 use Rattle.element.proofs.as_f64.Statement.{statement}
 use Rattle.element.proofs.as_f64.Tie as tie
 

@@ -9,7 +9,8 @@ use Rattle.patterns.specs.Pattern.{asF64}
 use Rattle.kinds.specs.Row.{kindIn, FormatRow}
 use Rattle.kinds.specs.declared.Format.{Format}
 use Rattle.kinds.specs.declared.Outcome.the-variants.{NanOrInf, OutOfRange}
-use Rattle.element.specs.Convert.{CanonicalElement, elementF64, filled, pastRange}
+use Rattle.cast_spec.specs.Fit.{filled, pastRange}
+use Rattle.element.specs.Element.{CanonicalElement, elementF64}
 use Rattle.element.proofs.Refusals.{canonical-of, value-of, integer-ends, float-ends}
 use Rattle.element.proofs.outcome.Statement.{statement}
 use Rattle.element.proofs.outcome.Tie as tie

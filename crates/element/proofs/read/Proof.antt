@@ -2,7 +2,7 @@
 use mathlib.Core.Path.{sym, ap, subst, _∙_}
 use borrow.Author.Needs.{needs}
 use Rattle.kinds.specs.declared.Format.{Format}
-use Rattle.element.specs.Convert.{FormatPattern, elementOf}
+use Rattle.element.specs.Element.{FormatPattern, elementOf}
 use Rattle.element.specs.declared.Element.the-variants.{Integer, Float}
 use Rattle.element.proofs.read.Statement.{statement}
 use Rattle.element.proofs.read.Tie as tie

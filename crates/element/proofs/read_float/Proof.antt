@@ -6,7 +6,7 @@ use Rattle.patterns.specs.Kind.{bits}
 use Rattle.kinds.specs.Row.{floatOf}
 use Rattle.kinds.specs.declared.FloatFormat.{FloatFormat}
 use Rattle.floats.specs.Form as form
-use Rattle.element.proofs.Rows.{single, double}
+use Rattle.kinds.proofs.FloatRows.{single, double}
 use Rattle.element.proofs.read_float.Statement.{statement}
 use Rattle.element.proofs.read_float.Tie as tie
 

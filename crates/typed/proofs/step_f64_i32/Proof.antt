@@ -1,38 +1,52 @@
 -- `typed::step_f64_i32` meets its contract: the element is stored, or refused.
-use mathlib.Core.List.{map}
 use mathlib.Core.Path.{_≡_, _∙_}
+use mathlib.Core.Bool.{true}
+use mathlib.Core.List.{map}
 use mir.Val.{toZ, ofZ}
 use mir.Syntax.{w32}
 use denote.Ref.{now}
 use borrow.Author.Needs.{needs}
+use Rattle.patterns.specs.Kind.{f64}
 use Rattle.typed_values.specs.Bits.{i32Of, f64Bits}
 use Rattle.kinds.proofs.Constants.{i32-row}
+use Rattle.floats.proofs.Values.{f64-formed, read-canonical}
+use Rattle.steps.proofs.Steps.{float-to-integer-steps}
 use Rattle.typed.proofs.Formats.{f64-pattern}
 use Rattle.typed.proofs.Steps.{stored, refused}
 use Rattle.typed.proofs.step_f64_i32.Statement.{statement}
 use Rattle.typed.proofs.step_f64_i32.Tie as tie
 
 -- a signed number is read back from its bits as it was
-held : (c : tie.After-state-f64) → toZ w32 (ofZ w32 (c .before .i32-of .result)) ≡ c .before .i32-of .result
-held c = search needs
+read-back : (c : tie.After-state-f64) → toZ w32 (ofZ w32 (c .before .i32-of .result)) ≡ c .before .i32-of .result
+read-back c = search needs
+
+step-float-to-int-requires : tie.Need-step-float-to-int-requires
+step-float-to-int-requires c κs = let t = c .before .before in (read-canonical f64 (t .args .s .x) (f64-formed (t .args .s .x) (t .pre .0)) (c .read-f64 .result) (c .read-f64 .ensures), i32-row)
 
 returns : tie.Need-returns
 returns c =
     let k = c .before .before .before in
     let t = k .before .before in
-    let a = t .before .before .args in
-    stored i32Of (map f64Bits (now (a .src))) (now (a .dst)) 9 2 (a .s) (a .f) (t .step-float-to-int .result) (t .step-float-to-int .ensures) (c .state-f64 .result) (k .fit .given .0 .0) (k .fit .given .1) _ (held c ∙ c .before .i32-of .ensures) (c .state-f64 .ensures)
+    let x = t .before .read-f64 in
+    let start = t .before .before .before in
+    let a = start .args in
+    stored i32Of (map f64Bits (now (a .src))) (now (a .dst)) 9 2 (a .s) (a .f) (t .step-float-to-int .result)
+    (t .step-float-to-int .ensures ∙ float-to-integer-steps 53 11 0 (a .s .x) (f64-formed (start .args .s .x) (start .pre .0)) (x .result) (x .ensures) (a .f) true 32 (a .s .rounding) (a .s .range))
+    (c .state-f64 .result) (k .fit .given .0 .0) (k .fit .given .1) _ (read-back c ∙ c .before .i32-of .ensures) (c .state-f64 .ensures)
 
 returns-2 : tie.Need-returns-2
 returns-2 c =
     let m = c .before .before in
     let t = m .before in
-    let a = t .before .before .args in
-    refused i32Of (map f64Bits (now (a .src))) (now (a .dst)) 9 2 (a .s) (a .f) (t .step-float-to-int .result) (t .step-float-to-int .ensures) (c .refuse .result) (m .match .keys2) (c .before .outcome .result) (c .before .outcome .ensures) (c .refuse .ensures)
+    let x = t .before .read-f64 in
+    let start = t .before .before .before in
+    let a = start .args in
+    refused i32Of (map f64Bits (now (a .src))) (now (a .dst)) 9 2 (a .s) (a .f) (t .step-float-to-int .result)
+    (t .step-float-to-int .ensures ∙ float-to-integer-steps 53 11 0 (a .s .x) (f64-formed (start .args .s .x) (start .pre .0)) (x .result) (x .ensures) (a .f) true 32 (a .s .rounding) (a .s .range))
+    (c .refuse .result) (m .match .keys2) (c .before .outcome .result) (c .before .outcome .ensures) (c .refuse .ensures)
 
 pub step-f64-i32-spec : {M : Type 1} → statement M
 step-f64-i32-spec = tie.close (tie.spec
-    (λ c κs. (f64-pattern _ (c .before .pre .0), i32-row))
-    (λ c. search needs) (λ c κs. search needs) (λ c. search needs) (λ c. search needs) (λ c. search needs) (λ c κs. search needs) (λ c. search needs) returns
-    (λ c κs. (f64-pattern _ (c .before .before .before .pre .0), i32-row))
+    (λ c κs. search needs) step-float-to-int-requires (λ c. search needs) (λ c κs. search needs) (λ c. search needs) (λ c. search needs) (λ c. search needs) (λ c κs. search needs) (λ c. search needs) returns
+    (λ c κs. (f64-pattern _ (c .before .before .before .before .pre .0), i32-row))
     (λ c κs. search needs) returns-2)

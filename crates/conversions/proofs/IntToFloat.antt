@@ -1,0 +1,82 @@
+-- An integer element going to a float kind: the f64 that holds its pick has the pick's bits there, for any narrower format and for f64 itself.
+use mathlib.Core.Path.{_≡_, sym, ap, subst, _∙_}
+use mathlib.Core.Logic.{⊎-elim}
+use Prim.Native.Nat.{ℕ, _-_, _*_, _^_, _≤_, _<_}
+use native.Mathlib.Nat.{zero-mul}
+use native.Mathlib.Omega.{arith}
+use lib.Dec.{lit<, lit≤}
+use Rattle.grid.specs.Grid.{OnMag, float}
+use Rattle.grid.specs.Round.{pickMag, ruleFor}
+use Rattle.grid.specs.declared.RoundingMode.{RoundingMode}
+use Rattle.grid.proofs.Kept.{size-pos, size-shift}
+use Rattle.grid.proofs.Neighbours.{cut, finer}
+use Rattle.grid.proofs.Picked.{picked-pos}
+use Rattle.patterns.specs.Kind.{binary, f64}
+use Rattle.patterns.specs.Float.{infBits}
+use Rattle.patterns.specs.Pattern.{magBits, withSign}
+use Rattle.patterns.proofs.Floats.{mag-lt}
+use Rattle.kinds.specs.Row.{floatFormat, FloatRow}
+use Rattle.kinds.specs.declared.FloatFormat.{FloatFormat}
+use Rattle.kinds.specs.declared.OutOfRangeMode.{OutOfRangeMode}
+use Rattle.kinds.specs.declared.Fit.the-variants.{Pattern}
+use Rattle.floats.specs.Form.{CanonicalClass, scaledOf}
+use Rattle.floats.specs.declared.Class.the-variants.{Finite}
+use Rattle.floats.proofs.Values.{scaled-canonical}
+use Rattle.integers.specs.Precision.{Precision}
+use Rattle.integers.specs.declared.Integer.{Integer}
+use Rattle.integers.proofs.Bounds.{pick-in-f64, pick-on}
+use Rattle.integers.proofs.Scale.{pick-scale}
+use Rattle.narrowing.specs.Fit.{fitBits}
+use Rattle.narrowing.specs.Format.{Narrower, Rebiasable, rebiased}
+use Rattle.narrowing.proofs.Fits.{bits-fit, number-fit}
+use Rattle.narrowing.proofs.Magnitudes.{rebias-exact, rebiasable}
+use Rattle.conversions.specs.Fit.{fitInteger}
+
+-- a row's precision is one that an integer is rounded to
+pub row-precision : (f : FloatFormat) → FloatRow f → Precision (f .precision)
+row-precision f row = ⊎-elim
+    (λ (e : f ≡ floatFormat 24 8 925). let p = ap (λ (g : FloatFormat). g .precision) e in record { two = omega arith; at-most-53 = omega arith })
+    (λ (e : f ≡ floatFormat 53 11 0). let p = ap (λ (g : FloatFormat). g .precision) e in record { two = omega arith; at-most-53 = omega arith }) row
+
+module _ (x : Integer) (small : x .magnitude < 2 ^ 64) (mode : RoundingMode) (range : OutOfRangeMode) (bits : ℕ) where
+  abbrev r : RoundingMode
+  r = ruleFor (x .negative) mode
+
+  -- the pick, as a multiple of 2^-1074
+  abbrev picked : ℕ → ℕ
+  picked p = pickMag (float p 0) r (x .magnitude) * 2 ^ 1074
+
+  picked-is : (p s : ℕ) → s ≤ 1074 → pickMag (float p s) r (x .magnitude * 2 ^ 1074) ≡ picked p
+  picked-is p s h = pick-scale p s r (x .magnitude) 1074 h
+
+  pub integer-to-f64 : bits ≡ magBits 53 0 (picked 53) → Pattern (withSign 64 (x .negative) bits) ≡ fitInteger f64 mode range x
+  integer-to-f64 e =
+      let ok : Precision 53 = record { two = lit≤ tt; at-most-53 = lit≤ tt } in
+      bits-fit 53 11 (x .negative) range bits (subst (λ (z : ℕ). z < infBits 53 11) (sym e) (mag-lt 53 11 0 (lit≤ tt) (lit< tt) (picked 53) (pick-on 53 ok r (x .magnitude) small) (pick-in-f64 53 ok r (x .magnitude) small)))
+      ∙ number-fit 53 11 0 (lit≤ tt) (lit< tt) mode range (x .negative) (x .magnitude * 2 ^ 1074) bits (e ∙ ap (magBits 53 0) (sym (picked-is 53 0 (omega arith))))
+
+  -- ---- to a narrower format
+  module _ (p w s : ℕ) (narrower : Narrower p s) (some : 0 < w) (fine : s ≤ 1074) (early : s - (53 - p) ≤ 1022) (e : bits ≡ magBits 53 0 (picked p)) where
+    ok : Precision p
+    ok = record { two = narrower .two; at-most-53 = omega (arith, narrower .fewer) }
+
+    on : OnMag (float p s) (picked p)
+    on = subst (λ (z : ℕ). OnMag (float p s) z) (picked-is p s fine) (picked-pos (float p s) (narrower .two) r (x .magnitude * 2 ^ 1074) .on)
+
+    canonical : CanonicalClass (Finite (scaledOf (picked p)))
+    canonical = scaled-canonical (picked p) (finer p s 53 0 (picked p) (ok .at-most-53) (omega arith) on) (pick-in-f64 p ok r (x .magnitude) small)
+
+    normal : (picked p ≡ 0 → ⊥) → s - (53 - p) ≤ scaledOf (picked p) .exponent
+    normal h = cut 0 (pickMag (float p 0) r (x .magnitude))
+        (λ (l : 0 < pickMag (float p 0) r (x .magnitude)). omega (arith, size-shift (pickMag (float p 0) r (x .magnitude)) 1074 l, size-pos (pickMag (float p 0) r (x .magnitude)) l))
+        (λ (l : pickMag (float p 0) r (x .magnitude) ≤ 0). absurd (h (ap (λ (z : ℕ). z * 2 ^ 1074) (none l) ∙ zero-mul (2 ^ 1074))))
+      where
+        none : {n : ℕ} → n ≤ 0 → n ≡ 0
+        none l = omega arith
+
+    pub integer-rebiasable : Rebiasable p s bits
+    integer-rebiasable = subst (Rebiasable p s) (sym e) (rebiasable p s (picked p) narrower on canonical normal)
+
+    pub integer-narrowed : fitBits p w (x .negative) range (rebiased p s bits) ≡ fitInteger (binary p w s) mode range x
+    integer-narrowed = number-fit p w s (narrower .two) some mode range (x .negative) (x .magnitude * 2 ^ 1074) (rebiased p s bits)
+        (ap (rebiased p s) e ∙ rebias-exact p s (picked p) narrower on canonical normal ∙ ap (magBits p s) (sym (picked-is p s fine)))

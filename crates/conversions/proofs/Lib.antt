@@ -1,0 +1,4 @@
+pub mod Integers
+pub mod FloatToInt
+pub mod IntToFloat
+pub mod ToF64

@@ -1,0 +1,58 @@
+-- What a float's form comes to in a kind is what its pattern comes to.
+use mathlib.Core.Path.{_≡_, refl, sym, ap, subst, _∙_}
+use mathlib.Core.Bool.{Bool}
+use mathlib.Core.List.{[]}
+use mathlib.Core.Logic.{⊎-elim}
+use Prim.Native.Nat.{ℕ, _*_, _^_, _<_}
+use lib.IntN.{ℤ, natAbs}
+use Rattle.grid.specs.Round.{pick, signed}
+use Rattle.grid.specs.declared.RoundingMode.{RoundingMode}
+use Rattle.patterns.specs.Kind.{Kind, integer, binary, f32, f64, bits, gridOf}
+use Rattle.patterns.specs.Value.{Value, nan, inf, num, negative, valueOf}
+use Rattle.patterns.specs.Pattern.{asF64From, infinity, nanPattern}
+use Rattle.patterns.proofs.Floats.{infinity-sign}
+use Rattle.kinds.specs.Row.{FloatRow}
+use Rattle.kinds.specs.declared.FloatFormat.{FloatFormat}
+use Rattle.kinds.specs.declared.OutOfRangeMode.{OutOfRangeMode}
+use Rattle.kinds.specs.declared.Fit.the-variants.{Pattern}
+use Rattle.kinds.specs.Row as rows
+use Rattle.cast_spec.specs.Element.{converted}
+use Rattle.floats.specs.Form.{classFor, f64Of, floatOf, scaledOf}
+use Rattle.floats.proofs.Values.{Formed, f32-formed, f64-formed}
+use Rattle.cast_spec.specs.Fit.{fitNumber, fitOf}
+use Rattle.narrowing.specs.Fit.{fitClass, fitFloat}
+use Rattle.cast_spec.specs.Fit.{unmapped}
+use Rattle.cast_spec.proofs.Filled.{fit-any}
+
+module _ (p w s b : ℕ) (formed : Formed (binary p w s) b) (rule : RoundingMode) (range : OutOfRangeMode) where
+  abbrev k : Kind
+  k = binary p w s
+
+  number : (to : Kind) (x : ℤ) → valueOf k b ≡ num x
+      → fitNumber to rule range (negative k b) (signed (negative k b) (scaledOf (natAbs x) .significand * 2 ^ scaledOf (natAbs x) .exponent)) ≡ fitOf (converted (record { from = k; to = to; rule = rule; range = range; entries = [] }) b to (num x))
+  number to x e = ap (fitNumber to rule range (negative k b)) (formed .number x e) ∙ fit-any range (negative k b) (pick (gridOf to) rule x) to 0 _
+
+  pub form-to-integer : (t : Bool) (n : ℕ) → fitFloat (integer t n) rule range (floatOf k b) ≡ fitOf (unmapped k (integer t n) rule range b)
+  form-to-integer t n = go (valueOf k b) refl
+    where
+      go : (v : Value) → valueOf k b ≡ v → fitClass (integer t n) rule range (floatOf k b) (classFor k b v) ≡ fitOf (converted (record { from = k; to = integer t n; rule = rule; range = range; entries = [] }) b (integer t n) v)
+      go (num x) e = number (integer t n) x e
+      go (inf neg) e = refl
+      go nan e = refl
+
+  pub form-to-float : (p′ w′ s′ : ℕ) → (valueOf k b ≡ nan → nanPattern f64 p′ w′ (f64Of (floatOf k b)) ≡ nanPattern k p′ w′ b) → fitFloat (binary p′ w′ s′) rule range (floatOf k b) ≡ fitOf (unmapped k (binary p′ w′ s′) rule range b)
+  form-to-float p′ w′ s′ nans = go (valueOf k b) refl
+    where
+      go : (v : Value) → valueOf k b ≡ v → fitClass (binary p′ w′ s′) rule range (floatOf k b) (classFor k b v) ≡ fitOf (converted (record { from = k; to = binary p′ w′ s′; rule = rule; range = range; entries = [] }) b (binary p′ w′ s′) v)
+      go (num x) e = number (binary p′ w′ s′) x e
+      go (inf neg) e = ap (λ (c : Bool). Pattern (infinity p′ w′ c)) (sym (infinity-sign p w s b neg e))
+      go nan e = ap Pattern (nans e)
+
+-- an f64 to any float kind, and an f32 to f64
+pub f64-to-float : (p w s b : ℕ) → b < 2 ^ 64 → (rule : RoundingMode) (range : OutOfRangeMode) → fitFloat (binary p w s) rule range (floatOf f64 b) ≡ fitOf (unmapped f64 (binary p w s) rule range b)
+unfolding nanPattern
+f64-to-float p w s b fits rule range = form-to-float 53 11 0 b (f64-formed b fits) rule range p w s (λ e. ap (nanPattern f64 p w) (f64-formed b fits .written ∙ ap (asF64From f64 b) e))
+
+pub f32-to-f64 : (b : ℕ) (rule : RoundingMode) (range : OutOfRangeMode) → fitFloat f64 rule range (floatOf f32 b) ≡ fitOf (unmapped f32 f64 rule range b)
+unfolding nanPattern
+f32-to-f64 b rule range = form-to-float 24 8 925 b (f32-formed b) rule range 53 11 0 (λ e. f32-formed b .written ∙ ap (asF64From f32 b) e)

@@ -1,0 +1,5 @@
+pub mod Found
+pub mod FloatForms
+pub mod Integers
+pub mod SameKind
+pub mod Steps
