@@ -215,6 +215,16 @@ const KINDS: [KindRow; 10] = [
     },
 ];
 
+// Whether a rounding code and a range code are listed.
+pub fn rules_listed(rounding: u8, range: u8) -> bool
+    ensures { λ r. ⌜ r ≡ ltb rounding 5 && ltb range 3 ⌝ }
+{
+    if LISTED_ROUNDINGS <= rounding {
+        return false;
+    }
+    range < LISTED_RANGES
+}
+
 // Whether every code of a call is listed.
 pub fn codes_listed(from: u8, to: u8, rounding: u8, range: u8) -> bool
     ensures { λ r. ⌜ r ≡ ltb from 10 && ltb to 10 && ltb rounding 5 && ltb range 3 ⌝ }
@@ -225,10 +235,7 @@ pub fn codes_listed(from: u8, to: u8, rounding: u8, range: u8) -> bool
     if LISTED_KINDS <= to {
         return false;
     }
-    if LISTED_ROUNDINGS <= rounding {
-        return false;
-    }
-    range < LISTED_RANGES
+    rules_listed(rounding, range)
 }
 
 // The row of a listed kind code.

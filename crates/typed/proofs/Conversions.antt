@@ -52,13 +52,14 @@ use Rattle.kinds.proofs.Lookup as F
 use Rattle.kinds.proofs.Lookup.Laws as F′
 use Rattle.cast_spec.specs.Element.{lookupOf}
 use Rattle.typed_entries.proofs.Lookups.{EntryType}
-use Rattle.typed.proofs.State.Laws as S′
-use Rattle.typed.proofs.State as S
-use Rattle.typed.specs.declared.State.{State}
+use Rattle.typed_states.proofs.State.Laws as S′
+use Rattle.typed_states.proofs.State as S
+use Rattle.typed_states.specs.declared.State.{State}
 use Rattle.typed.specs.Typed.{TypedContract}
 use Rattle.walks.proofs.Again.{LentAgain, lends-again, comes-back}
 use Rattle.typed.proofs.Turns.{Elements, Inv, left, starts, asks, turns}
-use Rattle.typed.specs.Loop.{startOf, outcomeFor, nextState, storedIn}
+use Rattle.typed_states.specs.States.{startOf}
+use Rattle.typed.specs.Loop.{outcomeFor, nextState, storedIn}
 
 -- ---- a pair of kinds: the types of its elements and of its entries, with their patterns
 pub record Pair : Type 2 where

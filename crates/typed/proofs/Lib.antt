@@ -3,7 +3,6 @@ pub mod Formats
 pub mod Pairs
 pub mod Places
 pub mod RefusedNan
-pub mod States
 pub mod Steps
 pub mod Stored
 pub mod Threes

@@ -20,8 +20,9 @@ use Rattle.cast_spec.proofs.Outcomes.{stored-pattern, refuses}
 use Rattle.steps.specs.Steps.{stepped}
 use Rattle.cast_spec.proofs.Filled.{outcome-filled}
 use Rattle.steps.proofs.Found.{found-outcome}
-use Rattle.typed.specs.declared.State.{State}
-use Rattle.typed.specs.Loop.{stopped, stateAt, outcomeFor, nextState, storedIn}
+use Rattle.typed_states.specs.declared.State.{State}
+use Rattle.typed_states.specs.States.{stopped, stateAt}
+use Rattle.typed.specs.Loop.{outcomeFor, nextState, storedIn}
 
 -- the element of the state s, which the steps from one kind to the other take to the fit x; and the state r after it
 module _ {D : Type 0} (of : ℕ → D) (ps : List ℕ) (ds : List D) (from to : ℕ) (s : State) (f : Lookup) (x : Fit) (e : x ≡ stepped f (kindOf from) (kindOf to) (s .rounding) (s .range) (s .x)) (r : State) where

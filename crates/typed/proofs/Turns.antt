@@ -29,9 +29,10 @@ use Rattle.cast_spec.proofs.Runs.{Run, done, refused, kept}
 use Rattle.cast_spec.specs.Element.{Entry, Settings, lookupOf, foundOr, outcomeOf}
 use Rattle.cast_spec.specs.Fit.{unmapped}
 use Rattle.cast_spec.specs.Chunk.{Inputs, settingsOf, codesListed, mapWhole, bytesWhole, callOf, outcomeAt, answerNext, answerFrom, answerOf, bytesFrom, destinationOf, entriesFrom, Refuses}
-use Rattle.typed.specs.Loop.{going, stopped, stateAt, startOf, outcomeFor, nextState, storedIn}
+use Rattle.typed_states.specs.States.{going, stopped, stateAt, startOf}
+use Rattle.typed.specs.Loop.{outcomeFor, nextState, storedIn}
 use Rattle.typed.specs.Typed.{bytesOf, typedInputs}
-use Rattle.typed.specs.declared.State.{State}
+use Rattle.typed_states.specs.declared.State.{State}
 use Rattle.typed.proofs.Places.{map-set, mapped-below, entry-below, some-element, length-bytes, pattern-at, set-bytes, entries-back}
 
 -- ---- whole elements

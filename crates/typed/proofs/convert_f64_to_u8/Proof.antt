@@ -7,14 +7,14 @@ use Rattle.typed_entries.proofs.lookup_f64_u8.Symbol as lookup
 use Rattle.typed.proofs.step_f64_u8.Symbol as step
 use Rattle.typed.proofs.convert_f64_to_u8.Key.{name}
 use Rattle.typed.proofs.Conversions.{Start, LookUp, Step, AnswerOf, typed-call-meets-contract}
-use Rattle.typed.proofs.answer_of.Met as answer-thm
+use Rattle.typed_states.proofs.answer_of.Met as answer-thm
 use Rattle.typed.proofs.convert_f64_to_u8 as convert
 use Rattle.typed.proofs.convert_f64_to_u8.Code as code
-use Rattle.typed.proofs.start_f64.Symbol as start
+use Rattle.typed_states.proofs.start_f64.Symbol as start
 use Rattle.typed.proofs.step_f64_u8.Met as step-thm
-use Rattle.typed.proofs.answer_of.Symbol as answer
+use Rattle.typed_states.proofs.answer_of.Symbol as answer
 use Rattle.typed.proofs.Pairs.{f64-to-u8}
-use Rattle.typed.proofs.start_f64.Met as start-thm
+use Rattle.typed_states.proofs.start_f64.Met as start-thm
 use Rattle.typed.proofs.convert_f64_to_u8.Statement as stated
 
 pub convert-f64-to-u8-spec : {M : Type 1} → stated.statement M
@@ -23,7 +23,7 @@ convert-f64-to-u8-spec 𝓤 H 𝓜 𝓖 𝓡 =
     entered 𝓤 H (tripleOf 𝓤 H (𝓖 .A) convert.signature (convert.spec 𝓤 H (𝓖 .A) (𝓜 .mem) (𝓡 .run)))
     (tables 𝓤 H 𝓜 𝓡 code.env .C) (tables 𝓤 H 𝓜 𝓡 code.env .Λ) name code.function (code.unfolded 𝓤 H 𝓜 𝓡)
     (typed-call-meets-contract f64-to-u8 start.name lookup.name step.name answer.name 𝓤 H (𝓖 .A) (givenOf 𝓤 H 𝓜 𝓖) (tablesOf 𝓤 H 𝓜 (tables 𝓤 H 𝓜 𝓡 code.env))
-    (cited 𝓤 H (Start f64-to-u8 𝓤 H (𝓖 .A)) 𝓜 𝓡 code.env start.name start.routine code.calls-typed·start-f64 (start-thm.met 𝓤 H 𝓜 𝓖 𝓡))
+    (cited 𝓤 H (Start f64-to-u8 𝓤 H (𝓖 .A)) 𝓜 𝓡 code.env start.name start.routine code.calls-typed-states·start-f64 (start-thm.met 𝓤 H 𝓜 𝓖 𝓡))
     (cited 𝓤 H (LookUp f64-to-u8 𝓤 H (𝓖 .A)) 𝓜 𝓡 code.env lookup.name lookup.routine code.calls-typed-entries·lookup-f64-u8 (lookup-thm.met 𝓤 H 𝓜 𝓖 𝓡))
     (cited 𝓤 H (Step f64-to-u8 𝓤 H (𝓖 .A)) 𝓜 𝓡 code.env step.name step.routine code.calls-typed·step-f64-u8 (step-thm.met 𝓤 H 𝓜 𝓖 𝓡))
-    (cited 𝓤 H (AnswerOf f64-to-u8 𝓤 H (𝓖 .A)) 𝓜 𝓡 code.env answer.name answer.routine code.calls-typed·answer-of (answer-thm.met 𝓤 H 𝓜 𝓖 𝓡)))
+    (cited 𝓤 H (AnswerOf f64-to-u8 𝓤 H (𝓖 .A)) 𝓜 𝓡 code.env answer.name answer.routine code.calls-typed-states·answer-of (answer-thm.met 𝓤 H 𝓜 𝓖 𝓡)))

@@ -1,5 +1,5 @@
 -- The state after the checks, at a position and at the start is the one that the loop's definitions say.
-use mathlib.Core.Bool.{Bool, true, false, cond}
+use mathlib.Core.Bool.{Bool, true, false, cond, _&&_}
 use mathlib.Core.Path.{_≡_, refl, sym, ap, ap₂, subst, _∙_}
 use mathlib.Core.List.{List, [], _∷_, map}
 use Prim.Native.Nat.{ℕ, zero, suc, _≤_, _<_}
@@ -12,27 +12,23 @@ use Rattle.kinds.specs.Codes.{roundingOf, rangeOf}
 use Rattle.kinds.specs.declared.OutOfRangeMode.{OutOfRangeMode}
 use Rattle.kinds.specs.declared.Answer.{Answer}
 use Rattle.kinds.specs.declared.Answer.the-variants as A
-use Rattle.typed.specs.declared.State.{State}
-use Rattle.typed.specs.Loop.{going, stopped, stateAt, checkOf, startOf}
+use Rattle.typed_states.specs.declared.State.{State}
+use Rattle.typed_states.specs.States.{going, stopped, stateAt, checkOf, startOf}
 
 -- ---- the checks of the codes `rounding` and `range`, which stand for rule and choice
 module _ (n m rounding range : ℕ) (rule : RoundingMode) (choice : OutOfRangeMode) (u : rule ≡ roundingOf rounding) (v : choice ≡ rangeOf range) where
   stopped-by : (a : Answer) → stopped rule choice 0 a ≡ stopped (roundingOf rounding) (rangeOf range) 0 a
   stopped-by a = ap₂ (λ (x : RoundingMode) (y : OutOfRangeMode). stopped x y 0 a) u v
 
-  pub rounding-unlisted : 5 ≤ rounding → stopped rule choice 0 A.UnknownCode ≡ checkOf n m rounding range
-  rounding-unlisted h = stopped-by A.UnknownCode ∙ simp (le-ltb rounding 5 h)
+  pub rules-unlisted : ltb rounding 5 && ltb range 3 ≡ false → stopped rule choice 0 A.UnknownCode ≡ checkOf n m rounding range
+  rules-unlisted h = stopped-by A.UnknownCode ∙ simp h
 
-  module _ (a : rounding < 5) where
-    pub range-unlisted : 3 ≤ range → stopped rule choice 0 A.UnknownCode ≡ checkOf n m rounding range
-    range-unlisted h = stopped-by A.UnknownCode ∙ simp (lt-ltb rounding 5 a, le-ltb range 3 h)
+  module _ (listed : ltb rounding 5 && ltb range 3 ≡ true) where
+    pub counts-differ : (n ≡ m → ⊥) → stopped rule choice 0 (A.LengthMismatch n m) ≡ checkOf n m rounding range
+    counts-differ h = stopped-by (A.LengthMismatch n m) ∙ simp (listed, ne-eqb n m h)
 
-    module _ (b : range < 3) where
-      pub counts-differ : (n ≡ m → ⊥) → stopped rule choice 0 (A.LengthMismatch n m) ≡ checkOf n m rounding range
-      counts-differ h = stopped-by (A.LengthMismatch n m) ∙ simp (lt-ltb rounding 5 a, lt-ltb range 3 b, ne-eqb n m h)
-
-      pub checks-pass : n ≡ m → going rule choice 0 0 ≡ checkOf n m rounding range
-      checks-pass h = ap₂ (λ (x : RoundingMode) (y : OutOfRangeMode). going x y 0 0) u v ∙ simp (lt-ltb rounding 5 a, lt-ltb range 3 b, eq-eqb n m h)
+    pub checks-pass : n ≡ m → going rule choice 0 0 ≡ checkOf n m rounding range
+    checks-pass h = ap₂ (λ (x : RoundingMode) (y : OutOfRangeMode). going x y 0 0) u v ∙ simp (listed, eq-eqb n m h)
 
 -- ---- the state at a position of elements whose patterns `bits` gives
 pub mapped-at : {X : Type 0} (bits : X → ℕ) (xs : List X) (i : ℕ) (d : X) → i < length xs → bits (getD xs i d) ≡ getD (map bits xs) i 0

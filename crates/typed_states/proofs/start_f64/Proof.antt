@@ -1,10 +1,10 @@
--- `typed::start_f64` meets its contract: the checks, then the first element.
+-- `typed_states::start_f64` meets its contract: the checks, then the first element.
 use denote.Ref.{now}
 use borrow.Author.Needs.{needs}
 use Rattle.typed_values.specs.Bits.{f64Bits}
-use Rattle.typed.proofs.States.{starts, refuses-start}
-use Rattle.typed.proofs.start_f64.Statement.{statement}
-use Rattle.typed.proofs.start_f64.Tie as tie
+use Rattle.typed_states.proofs.States.{starts, refuses-start}
+use Rattle.typed_states.proofs.start_f64.Statement.{statement}
+use Rattle.typed_states.proofs.start_f64.Tie as tie
 
 returns : tie.Need-returns
 returns c =

@@ -1,0 +1,32 @@
+-- Internal: the state of a typed call's loop, over patterns.
+use mathlib.Core.Bool.{true, false, cond, _&&_}
+use mathlib.Core.List.{List}
+use Prim.Native.Nat.{ℕ}
+use lib.Dec.{ltb, eqb}
+use lib.ListN.{length, getD}
+use Rattle.grid.specs.declared.RoundingMode.{RoundingMode}
+use Rattle.kinds.specs.Codes.{roundingOf, rangeOf}
+use Rattle.kinds.specs.declared.OutOfRangeMode.{OutOfRangeMode}
+use Rattle.kinds.specs.declared.Answer.{Answer}
+use Rattle.kinds.specs.declared.Answer.the-variants as A
+use Rattle.typed_states.specs.declared.State.{State}
+
+module _ (rule : RoundingMode) (range : OutOfRangeMode) where
+  -- the element at i is to be converted, and its pattern is x
+  abbrev pub going : ℕ → ℕ → State
+  going i x = record { more = true; at = i; x = x; answer = A.Converted; rounding = rule; range = range }
+
+  abbrev pub stopped : ℕ → Answer → State
+  stopped i a = record { more = false; at = i; x = 0; answer = a; rounding = rule; range = range }
+
+  abbrev pub stateAt : List ℕ → ℕ → State
+  stateAt ps i = cond (ltb i (length ps)) (going i (getD ps i 0)) (stopped i A.Converted)
+
+-- the checks of n source and m destination elements: 1, then 4
+abbrev pub checkOf : ℕ → ℕ → ℕ → ℕ → State
+checkOf n m rounding range = cond (ltb rounding 5 && ltb range 3)
+    (cond (eqb n m) (going (roundingOf rounding) (rangeOf range) 0 0) (stopped (roundingOf rounding) (rangeOf range) 0 (A.LengthMismatch n m)))
+    (stopped (roundingOf rounding) (rangeOf range) 0 A.UnknownCode)
+
+abbrev pub startOf : List ℕ → ℕ → ℕ → ℕ → State
+startOf ps m rounding range = let s = checkOf (length ps) m rounding range in cond (s .more) (stateAt (s .rounding) (s .range) ps 0) s
