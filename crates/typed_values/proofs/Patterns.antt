@@ -5,7 +5,7 @@ use Prim.Native.Nat.{ℕ, _*_, _%_, _≤_, _<_}
 use lib.Ieee.Compare.{differs-from-itself}
 use lib.Ieee.Bits.{ofBits-toBits, toBits-lt, toBits-ofBits, nanBits-is, nanBits-above}
 use lib.Dec.{T, lit<}
-use lib.Ieee.{Float, Format, binary32, binary64, nan, inf, fin, fits, isNan, ne, top, ofBits, nanBits, toBits}
+use lib.Ieee.{Float, Format, binary32, binary64, nan, inf, fin, fits, isNan, ne, hid, ones, top, ofBits, nanBits, toBits}
 use borrow.Author.Tests.{lt-ltb, le-ltb}
 use Rattle.typed_values.specs.Bits.{floatBits}
 
@@ -19,8 +19,8 @@ no-nan (fin s m x) e = tt
 pub nan-bits : (f : Format) (x : Float) → ne x x ≡ true → floatBits f nan ≡ floatBits f x
 nan-bits f x e = ap (floatBits f) (sym (differs-from-itself x (subst T (sym e) tt)))
 
-pub held-bits : (f : Format) (x : Float) → fits f x ≡ true → toBits f x ≡ floatBits f x
-held-bits f x e = sym (ap (λ (t : Bool). cond t (toBits f x) 0) e)
+pub own-bits : (f : Format) (x : Float) → fits f x ≡ true → toBits f x ≡ floatBits f x
+own-bits f x e = sym (ap (λ (t : Bool). cond t (toBits f x) 0) e)
 
 top-pos : (f : Format) → 0 < 2 * top f
 top-pos binary32 = lit< tt
@@ -46,15 +46,15 @@ module _ (f : Format) (x : Float) where
       go true e = ap (toBits f) (ofBits-toBits f x (subst T (sym e) tt))
       go false e = toBits-ofBits f 0 (top-pos f) (zero-no-nan f)
 
--- ---- the f32 of a pattern
+-- ---- which patterns are a NaN's: those above an infinity's, without the sign's bit
 is-nan : (x : Float) → isNan x ≡ true → x ≡ nan
 unfolding isNan
 is-nan nan e = refl
 is-nan (inf s) e = absurd (true≢false (sym e))
 is-nan (fin s m x) e = absurd (true≢false (sym e))
 
-pub nan-pattern : (n : ℕ) → 2139095040 < n % 2147483648 → nan ≡ ofBits binary32 n
-nan-pattern n h = sym (is-nan (ofBits binary32 n) (sym (nanBits-is binary32 n) ∙ nanBits-above binary32 n ∙ lt-ltb 2139095040 (n % 2147483648) h))
+pub nan-pattern : (f : Format) (n : ℕ) → ones f * hid f < n % top f → nan ≡ ofBits f n
+nan-pattern f n h = sym (is-nan (ofBits f n) (sym (nanBits-is f n) ∙ nanBits-above f n ∙ lt-ltb (ones f * hid f) (n % top f) h))
 
-pub no-nan-pattern : (n : ℕ) → n % 2147483648 ≤ 2139095040 → T (not (nanBits binary32 n))
-no-nan-pattern n h = let e : nanBits binary32 n ≡ false = nanBits-above binary32 n ∙ le-ltb 2139095040 (n % 2147483648) h in subst (λ (t : Bool). T (not t)) (sym e) tt
+pub no-nan-pattern : (f : Format) (n : ℕ) → n % top f ≤ ones f * hid f → T (not (nanBits f n))
+no-nan-pattern f n h = let e : nanBits f n ≡ false = nanBits-above f n ∙ le-ltb (ones f * hid f) (n % top f) h in subst (λ (t : Bool). T (not t)) (sym e) tt

@@ -8,8 +8,8 @@ use Rattle.patterns.specs.Pattern.{lowBits}
 
 -- ---- patterns
 
--- A float of the language is one that its format holds. The language has one NaN and gives it no bits; `toBits` writes the quiet NaN for it: sign 0,
--- of the fraction only the highest bit. A value that the format does not hold, which no program has, gets 0.
+-- A float of the language is one that fits its format. The language has one NaN and gives it no bits; `toBits` writes the quiet NaN for it: sign 0,
+-- of the fraction only the highest bit. A value that does not fit, which no program has, gets 0.
 abbrev pub floatBits : Format → Float → ℕ
 floatBits f x = cond (fits f x) (toBits f x) 0
 
@@ -37,3 +37,6 @@ i32Of b = let low = b % 2 ^ 32 in cond (ltb low (2 ^ 31)) (pos low) (negsuc (2 ^
 
 abbrev pub f32Of : ℕ → Float
 f32Of b = ofBits binary32 (b % 2 ^ 32)
+
+abbrev pub f64Of : ℕ → Float
+f64Of b = ofBits binary64 (b % 2 ^ 64)

@@ -1,6 +1,6 @@
 // A typed value's pattern, and the value of a pattern.
 ghost use mathlib.Core.Path.{_≡_};
-ghost use Rattle.typed_values.specs.Bits.{f64Bits, f32Bits, i64Bits, i32Bits, u8Bits, u8Of, i32Of, f32Of};
+ghost use Rattle.typed_values.specs.Bits.{f64Bits, f32Bits, i64Bits, i32Bits, u8Bits, u8Of, i32Of, f32Of, f64Of};
 
 // ---- the pattern of a value
 
@@ -80,4 +80,14 @@ pub fn f32_of(b: u64) -> f32
         return 0.0 / 0.0;
     }
     f32::from_bits(low as u32)
+}
+
+// The f64 of a pattern, likewise.
+pub fn f64_of(b: u64) -> f64
+    ensures { λ r. ⌜ r ≡ f64Of b ⌝ }
+{
+    if 0x7ff0_0000_0000_0000 < b % 0x8000_0000_0000_0000 {
+        return 0.0 / 0.0;
+    }
+    f64::from_bits(b)
 }

@@ -7,7 +7,7 @@ use lib.Ieee.{binary32, fits, toBits}
 use lib.Dec.{T}
 use Rattle.typed_values.proofs.bits_f32.Tie as tie
 use Rattle.typed_values.proofs.bits_f32.Statement.{statement}
-use Rattle.typed_values.proofs.Patterns.{no-nan, nan-bits, held-bits}
+use Rattle.typed_values.proofs.Patterns.{no-nan, nan-bits, own-bits}
 
 wider : {n : ℕ} → n < 2 ^ 32 → n < 2 ^ 64
 wider h = omega arith
@@ -23,7 +23,7 @@ cast-result : tie.Need-cast-result
 cast-result c = record { fits = wider (toBits-lt binary32 (c .before .args .x) (subst T (sym (c .before .good .0 .1)) tt)) }
 
 returns-2 : tie.Need-returns-2
-returns-2 c = held-bits binary32 (c .before .args .x) (c .before .good .0 .1)
+returns-2 c = own-bits binary32 (c .before .args .x) (c .before .good .0 .1)
 
 pub bits-f32-spec : {M : Type 1} → statement M
 bits-f32-spec = tie.close (tie.spec returns float-to-bits-result cast-result returns-2)
