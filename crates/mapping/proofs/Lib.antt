@@ -1,4 +1,5 @@
 pub mod Equal
 pub mod Floats
+pub mod Ieee
 pub mod Integers
 pub mod Entries

@@ -3,7 +3,7 @@ ghost use mathlib.Core.Path.{_≡_};
 ghost use mathlib.Core.Bool.{Bool};
 ghost use Prim.Native.Nat.{ℕ, _*_, _<_, _^_};
 ghost use Rattle.bytes_le.specs.Bytes.{Place, patternAt};
-ghost use Rattle.patterns.specs.Kind.{integer, binary, f32, f64, bits};
+ghost use Rattle.patterns.specs.Kind.{integer, binary, bits};
 ghost use Rattle.patterns.specs.Value.{valueOf};
 ghost use Rattle.kinds.specs.Row.{floatOf, FloatRow};
 ghost use Rattle.cast_spec.specs.Element.{matches, lookupOf};
@@ -28,21 +28,6 @@ pub fn matches_float(a: u64, key: u64, p: u32, w: u32) -> bool
         return infinity < x;
     }
     (x | k) == 0
-}
-
-// Whether an f64 matches a key.
-pub fn matches_f64(a: u64, key: u64) -> bool
-    ensures { λ r. ⌜ r ≡ matches (valueOf f64 a) (valueOf f64 key) ⌝ }
-{
-    matches_float(a, key, 53, 11)
-}
-
-// Whether an f32 matches a key.
-pub fn matches_f32(a: u64, key: u64) -> bool
-    requires { ⌜ (a < 2 ^ 32) × (key < 2 ^ 32) ⌝ }
-    ensures { λ r. ⌜ r ≡ matches (valueOf f32 a) (valueOf f32 key) ⌝ }
-{
-    matches_float(a, key, 24, 8)
 }
 
 // The pattern of the element at the position j of a chunk s of elements of w bytes.

@@ -1,2 +1,3 @@
 pub mod EntryTypes
+pub mod FloatKeys
 pub mod Lookups

@@ -46,20 +46,34 @@ pub struct EntryI64F32 {
 
 // ---- keys
 
-// Whether an entry's key matches the f64 of the pattern x.
+// Whether an entry's key matches the f64 of the pattern x: equal as floats, or both NaN.
 fn key_matches_f64(key: f64, x: u64) -> bool
     requires { ⌜ x < 2 ^ 64 ⌝ }
     ensures { λ r. ⌜ r ≡ matches (valueOf (kindOf 9) x) (valueOf (kindOf 9) (f64Bits key)) ⌝ }
 {
-    mapping::matches_f64(x, typed_values::bits_f64(key))
+    let double = typed_values::f64_of(x);
+    if double == key {
+        return true;
+    }
+    if double == double {
+        return false;
+    }
+    key != key
 }
 
-// Whether an entry's key matches the f32 of the pattern x.
+// Whether an entry's key matches the f32 of the pattern x, likewise.
 fn key_matches_f32(key: f32, x: u64) -> bool
     requires { ⌜ x < 2 ^ 32 ⌝ }
     ensures { λ r. ⌜ r ≡ matches (valueOf (kindOf 8) x) (valueOf (kindOf 8) (f32Bits key)) ⌝ }
 {
-    mapping::matches_f32(x, typed_values::bits_f32(key))
+    let single = typed_values::f32_of(x);
+    if single == key {
+        return true;
+    }
+    if single == single {
+        return false;
+    }
+    key != key
 }
 
 // Whether an entry's key matches the i64 of the pattern x.

@@ -1,20 +1,19 @@
--- `typed_entries::key_matches_f32` meets its contract: the key's pattern against x.
-use mathlib.Core.Path.{sym, subst, ap, _∙_}
-use Prim.Native.Nat.{_^_, _<_, ℕ}
+-- `typed_entries::key_matches_f32` meets its contract: the law of float keys, at each outcome of the two tests.
+use mathlib.Core.Path.{refl}
 use lib.Ieee.{binary32}
 use borrow.Author.Needs.{needs}
-use Rattle.patterns.specs.Value.{valueOf}
-use Rattle.patterns.specs.Kind.{f32}
-use Rattle.cast_spec.specs.Element.{matches}
-use Rattle.typed_values.proofs.Patterns.{bits-below}
-use Rattle.typed_entries.proofs.key_matches_f32.Tie as tie
+use Rattle.typed_entries.proofs.FloatKeys.{key-matches}
 use Rattle.typed_entries.proofs.key_matches_f32.Statement.{statement}
-
-matches-f32-requires : tie.Need-matches-f32-requires
-matches-f32-requires c κs = (c .before .pre, subst (λ (b : ℕ). b < 2 ^ 32) (sym (c .bits-f32 .ensures)) (bits-below binary32 (c .before .args .key)))
+use Rattle.typed_entries.proofs.key_matches_f32.Tie as tie
 
 returns : tie.Need-returns
-returns c = c .matches-f32 .ensures ∙ ap (λ (b : ℕ). matches (valueOf f32 (c .before .before .args .x)) (valueOf f32 b)) (c .before .bits-f32 .ensures)
+returns c = let t = c .before in let s = t .before in key-matches binary32 (s .args .key) (t .f32-of .result) (s .args .x) (s .good .0 .1) (s .pre) (t .f32-of .ensures) (c .if1 .taken) refl
+
+returns-2 : tie.Need-returns-2
+returns-2 c = let t = c .before .before in let s = t .before in key-matches binary32 (s .args .key) (t .f32-of .result) (s .args .x) (s .good .0 .1) (s .pre) (t .f32-of .ensures) (c .before .if1 .left) (c .if2 .taken)
+
+returns-3 : tie.Need-returns-3
+returns-3 c = let t = c .before .before in let s = t .before in key-matches binary32 (s .args .key) (t .f32-of .result) (s .args .x) (s .good .0 .1) (s .pre) (t .f32-of .ensures) (c .before .if1 .left) (c .if2 .left)
 
 pub key-matches-f32-spec : {M : Type 1} → statement M
-key-matches-f32-spec = tie.close (tie.spec (λ c κs. search needs) matches-f32-requires returns)
+key-matches-f32-spec = tie.close (tie.spec (λ c κs. search needs) returns returns-2 returns-3)

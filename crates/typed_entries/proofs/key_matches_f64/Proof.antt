@@ -1,15 +1,19 @@
--- `typed_entries::key_matches_f64` meets its contract: the key's pattern against x.
-use mathlib.Core.Path.{ap, _∙_}
-use Prim.Native.Nat.{ℕ}
+-- `typed_entries::key_matches_f64` meets its contract: the law of float keys, at each outcome of the two tests.
+use mathlib.Core.Path.{refl}
+use lib.Ieee.{binary64}
 use borrow.Author.Needs.{needs}
-use Rattle.patterns.specs.Value.{valueOf}
-use Rattle.patterns.specs.Kind.{f64}
-use Rattle.cast_spec.specs.Element.{matches}
+use Rattle.typed_entries.proofs.FloatKeys.{key-matches}
 use Rattle.typed_entries.proofs.key_matches_f64.Statement.{statement}
 use Rattle.typed_entries.proofs.key_matches_f64.Tie as tie
 
 returns : tie.Need-returns
-returns c = c .matches-f64 .ensures ∙ ap (λ (b : ℕ). matches (valueOf f64 (c .before .before .args .x)) (valueOf f64 b)) (c .before .bits-f64 .ensures)
+returns c = let t = c .before in let s = t .before in key-matches binary64 (s .args .key) (t .f64-of .result) (s .args .x) (s .good .0 .1) (s .pre) (t .f64-of .ensures) (c .if1 .taken) refl
+
+returns-2 : tie.Need-returns-2
+returns-2 c = let t = c .before .before in let s = t .before in key-matches binary64 (s .args .key) (t .f64-of .result) (s .args .x) (s .good .0 .1) (s .pre) (t .f64-of .ensures) (c .before .if1 .left) (c .if2 .taken)
+
+returns-3 : tie.Need-returns-3
+returns-3 c = let t = c .before .before in let s = t .before in key-matches binary64 (s .args .key) (t .f64-of .result) (s .args .x) (s .good .0 .1) (s .pre) (t .f64-of .ensures) (c .before .if1 .left) (c .if2 .left)
 
 pub key-matches-f64-spec : {M : Type 1} → statement M
-key-matches-f64-spec = tie.close (tie.spec (λ c κs. search needs) (λ c κs. search needs) returns)
+key-matches-f64-spec = tie.close (tie.spec (λ c κs. search needs) returns returns-2 returns-3)
