@@ -29,6 +29,7 @@ use Rattle.steps.specs.Steps.{stepped}
 use Rattle.steps.specs.Route.{RouteRow, routeOf, sourceOf, targetOf}
 use Rattle.cast_spec.proofs.Filled.{outcome-filled}
 use Rattle.steps.proofs.Found.{found-outcome}
+use Rattle.steps.proofs.Routes.{route-row, source-kind, target-kind}
 use Rattle.chunk.specs.declared.Settings.{Settings}
 use Rattle.chunk.specs.Run.{MapReady, Ready, lookedUp, refusedAnswer, settingsFor, storedAt}
 
@@ -36,24 +37,6 @@ use Rattle.chunk.specs.Run.{MapReady, Ready, lookedUp, refusedAnswer, se
 pub format-pattern : (f : Format) (b : ℕ) → FormatRow f → b < 2 ^ bits (kindIn f) → FormatPattern b f
 format-pattern (Integer f) b row h = record { positive = row .positive; at-most-64 = row .at-most-64; fits = h }
 format-pattern (Float f) b row h = record { row = row; fits = h }
-
-route-row : (s t : Format) → FormatRow s → FormatRow t → RouteRow (routeOf s t)
-route-row (Integer f) (Integer t) a b = (a, b)
-route-row (Integer f) (Float t) a b = (a, b)
-route-row (Float f) (Integer t) a b = (a, b)
-route-row (Float f) (Float t) a b = (a, b)
-
-source-kind : (s t : Format) → sourceOf (routeOf s t) ≡ kindIn s
-source-kind (Integer f) (Integer t) = refl
-source-kind (Integer f) (Float t) = refl
-source-kind (Float f) (Integer t) = refl
-source-kind (Float f) (Float t) = refl
-
-target-kind : (s t : Format) → targetOf (routeOf s t) ≡ kindIn t
-target-kind (Integer f) (Integer t) = refl
-target-kind (Integer f) (Float t) = refl
-target-kind (Float f) (Integer t) = refl
-target-kind (Float f) (Float t) = refl
 
 -- ---- the settings of a call
 module _ (s : Settings) (ready : Ready s) where
@@ -74,7 +57,7 @@ module _ (s : Settings) (ready : Ready s) where
   from-is = ap sourceOf (ready .route) ∙ source-kind (s .source) (s .target)
 
   to-is : targetOf (s .route) ≡ kindIn (s .target)
-  to-is = ap targetOf (ready .route) ∙ target-kind (s .source) (s .target)
+  to-is = ap targetOf (ready .route) ∙ target-kind (s .source) (s .target) (ready .source-row) (ready .target-row)
 
   pub source-pattern : (b : ℕ) → b < 2 ^ bits (kindIn (s .source)) → b < 2 ^ bits (sourceOf (s .route))
   source-pattern b = subst (λ (k : Kind). b < 2 ^ bits k) (sym from-is)

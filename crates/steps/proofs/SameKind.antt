@@ -1,22 +1,27 @@
--- "Widening and same-kind float casts are exact; infinities pass": a float to its own kind is its pattern.
-use mathlib.Core.Path.{_≡_, refl, sym, ap, ap₂, _∙_}
-use mathlib.Core.Bool.{Bool}
+-- An element that goes to its own kind is its pattern: "Widening and same-kind float casts are exact; infinities pass".
+use mathlib.Core.Path.{_≡_, refl, sym, ap, ap₂, subst, _∙_}
+use mathlib.Core.Bool.{Bool, cond}
 use mathlib.Core.List.{[]}
-use Prim.Native.Nat.{ℕ, _+_, _^_, _≤_, _<_}
-use lib.IntN.{ℤ}
+use Prim.Native.Nat.{ℕ, _+_, _-_, _*_, _^_, _<_}
+use lib.IntN.{ℤ, pos}
+use lib.Signed.{_≤ℤ_}
 use borrow.Author.Tests.{eq-eqb}
-use Rattle.grid.specs.Grid.{OnGrid}
+use Rattle.grid.specs.Grid.{OnGrid, OnMag, whole}
 use Rattle.grid.specs.Round.{pick}
 use Rattle.grid.specs.declared.RoundingMode.{RoundingMode}
 use Rattle.grid.proofs.Picked.{pick-own}
-use Rattle.patterns.specs.Kind.{InRange, Kind, WellFormed, binary, gridOf}
+use Rattle.patterns.specs.Kind.{InRange, Kind, WellFormed, binary, bits, gridOf, highInt, highest, integer}
 use Rattle.patterns.specs.Value.{Value, nan, inf, num, negative, valueOf}
 use Rattle.patterns.specs.Pattern.{asF64, nanPattern, patternOf, withSign}
-use Rattle.patterns.proofs.AnyKind.{pattern-only, sound}
-use Rattle.patterns.proofs.Floats.{infinity-bits, infinity-sign, number-of-format, signed-again}
+use Rattle.patterns.proofs.AnyKind.{lowest-in, pattern-only, sound, unit-pos}
+use Rattle.patterns.proofs.Integers.{lowIn, value-in-range, valueIn}
+use Rattle.patterns.proofs.Floats.{abs-signed, infinity-bits, infinity-sign, number-of-format, signed-again}
 use Rattle.kinds.specs.declared.OutOfRangeMode.{OutOfRangeMode}
 use Rattle.kinds.specs.declared.Outcome.the-variants.{Stored}
-use Rattle.cast_spec.specs.Element.{converted, ranged}
+use Rattle.cast_spec.specs.Element.{Settings, converted, ranged}
+use Rattle.integers.specs.Magnitude.{magnitudeOf}
+use Rattle.integers.proofs.Magnitudes.{magnitude-value}
+use Rattle.element.proofs.Integers.{numberOf}
 use Rattle.narrowing.proofs.Fits.{in-range-stored}
 use Rattle.cast_spec.specs.Fit.{unmapped}
 
@@ -28,15 +33,38 @@ own-nan : (p w s b : ℕ) → nanPattern (binary p w s) p w b ≡ b
 unfolding nanPattern
 own-nan p w s b = simp (eq-eqb p p refl)
 
-pub same-kind : (p w s : ℕ) → 2 ≤ p → 0 < w → (b : ℕ) → b < 2 ^ (w + p) → (mode : RoundingMode) (range : OutOfRangeMode) → Stored b ≡ unmapped (binary p w s) (binary p w s) mode range b
-same-kind p w s two some b fits mode range = go (valueOf k b) refl
+-- a pattern's number is on its kind's grid and in its range
+own-number : (k : Kind) → WellFormed k → (b : ℕ) → b < 2 ^ bits k → (x : ℤ) → valueOf k b ≡ num x → OnGrid (gridOf k) x × InRange k x
+unfolding valueOf highest
+own-number (integer s n) ok b fits x e =
+    let v : valueIn s n (2 ^ 1074) b ≡ x = cc in
+    let h = value-in-range s n (2 ^ 1074) ok unit-pos b fits in
+    let neg = negative (integer s n) b in
+    let m = cond neg (2 ^ n - b) b in
+    let low = subst (λ (z : ℤ). z ≤ℤ x) (sym (lowest-in s n)) (subst (λ (z : ℤ). lowIn s n (2 ^ 1074) ≤ℤ z) v (h .0)) in
+    let high = subst (λ (z : ℤ). z ≤ℤ pos (highInt s n * 2 ^ 1074)) v (h .1) in (
+      subst (OnGrid (whole 1074)) v (subst (λ (z : ℕ). OnMag (whole 1074) z) (sym (abs-signed neg (m * 2 ^ 1074))) (record { m = m; e = 1074; written = (refl, refl) })),
+      (low, high),
+    )
+own-number (binary p w s) ok b fits x e = number-of-format p w s (ok .0) (ok .1) b x e
+
+module _ (k : Kind) (ok : WellFormed k) (b : ℕ) (fits : b < 2 ^ bits k) (mode : RoundingMode) (range : OutOfRangeMode) where
+  abbrev S : Settings
+  S = record { from = k; to = k; rule = mode; range = range; entries = [] }
+
+  number : (x : ℤ) → valueOf k b ≡ num x → Stored b ≡ converted S b k (num x)
+  number x e =
+      let h = own-number k ok b fits x e in
+      sym (exactly k ok mode range (asF64 k b) (negative k b) x (h .0) (h .1) ∙ ap Stored (sym (pattern-only k b (negative k b) x ok fits e refl)))
+
+pub same-kind : (k : Kind) → WellFormed k → (b : ℕ) → b < 2 ^ bits k → (mode : RoundingMode) (range : OutOfRangeMode) → Stored b ≡ unmapped k k mode range b
+same-kind (integer s n) ok b fits mode range = number (integer s n) ok b fits mode range (numberOf (magnitudeOf (integer s n) b)) (magnitude-value s n b) ∙ ap (converted (S (integer s n) ok b fits mode range) b (integer s n)) (sym (magnitude-value s n b))
+same-kind (binary p w s) ok b fits mode range = go (valueOf k b) refl
   where
     k : Kind
     k = binary p w s
 
     go : (u : Value) → valueOf k b ≡ u → Stored b ≡ converted (record { from = k; to = k; rule = mode; range = range; entries = [] }) b k u
-    go (num x) e =
-        let h = number-of-format p w s two some b x e in
-        sym (exactly k (two, some) mode range (asF64 k b) (negative k b) x (h .0) (h .1) ∙ ap Stored (sym (pattern-only k b (negative k b) x (two, some) fits e refl)))
-    go (inf neg) e = ap Stored (sym (ap₂ (withSign (w + p)) (infinity-sign p w s b neg e) (sym (infinity-bits p w s b neg e)) ∙ signed-again p w s two some b fits))
+    go (num x) e = number k ok b fits mode range x e
+    go (inf neg) e = ap Stored (sym (ap₂ (withSign (w + p)) (infinity-sign p w s b neg e) (sym (infinity-bits p w s b neg e)) ∙ signed-again p w s (ok .0) (ok .1) b fits))
     go nan e = ap Stored (sym (own-nan p w s b))

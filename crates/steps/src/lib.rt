@@ -5,8 +5,7 @@ ghost use Rattle.kinds.specs.Row.{integerOf, floatOf, IntegerRow, FloatRow};
 ghost use Rattle.floats.specs.Form.{CanonicalClass};
 ghost use Rattle.narrowing.specs.Fit.{fitFloat};
 ghost use Rattle.conversions.specs.Fit.{fitInteger};
-ghost use Rattle.element.specs.Element.{FloatPattern};
-ghost use Rattle.steps.specs.Route.{routeOf, sourceOf, targetOf, RouteRow, SourcePattern};
+ghost use Rattle.steps.specs.Route.{integerRoute, floatRoute, routeOf, sourceOf, targetOf, RouteRow, SourcePattern};
 ghost use Rattle.steps.specs.Steps.{foundFit, stepped};
 use floats::Float;
 use grid::RoundingMode;
@@ -18,8 +17,9 @@ use kinds::IntegerFormat;
 use kinds::Lookup;
 use kinds::OutOfRangeMode;
 
-// Which of the four conversions two kinds take, with the format of each; settled once for a call.
+// Which of the four conversions two kinds take, with the format of each, or that they are the same kind; settled once for a call.
 pub enum Route {
+    Same(Format),
     IntToInt {
         from: IntegerFormat,
         to: IntegerFormat,
@@ -38,18 +38,40 @@ pub enum Route {
     },
 }
 
+// The route of two integer formats.
+fn integer_route(from: IntegerFormat, to: IntegerFormat) -> Route
+    ensures { λ r. ⌜ r ≡ integerRoute from to ⌝ }
+{
+    if from.bits == to.bits {
+        if from.signed == to.signed {
+            return Route::Same(Format::Integer(from));
+        }
+    }
+    Route::IntToInt { from: from, to: to }
+}
+
+// The route of two float formats.
+fn float_route(from: FloatFormat, to: FloatFormat) -> Route
+    ensures { λ r. ⌜ r ≡ floatRoute from to ⌝ }
+{
+    if from.precision == to.precision {
+        return Route::Same(Format::Float(from));
+    }
+    Route::FloatToFloat { from: from, to: to }
+}
+
 // The route of two formats.
 pub fn route_of(from: Format, to: Format) -> Route
     ensures { λ r. ⌜ r ≡ routeOf from to ⌝ }
 {
     match from {
         Format::Integer(f) => match to {
-            Format::Integer(t) => Route::IntToInt { from: f, to: t },
+            Format::Integer(t) => integer_route(f, t),
             Format::Float(t) => Route::IntToFloat { from: f, to: t },
         },
         Format::Float(f) => match to {
             Format::Integer(t) => Route::FloatToInt { from: f, to: t },
-            Format::Float(t) => Route::FloatToFloat { from: f, to: t },
+            Format::Float(t) => float_route(f, t),
         },
     }
 }
@@ -99,28 +121,24 @@ pub fn step_float_to_int(
     conversions::convert_float_to_int(x, to, mode, range)
 }
 
-// From a float kind to a float kind; to its own kind it is unchanged.
+// From a float kind to a float kind.
 pub fn step_float_to_float(
-    b: u64,
+    x: Float,
     found: Lookup,
-    from: FloatFormat,
     to: FloatFormat,
     mode: RoundingMode,
     range: OutOfRangeMode,
 ) -> Fit
-    requires { ⌜ FloatPattern b from × FloatRow to ⌝ }
-    ensures { λ r. ⌜ r ≡ stepped found (floatOf from) (floatOf to) mode range b ⌝ }
+    requires { ⌜ CanonicalClass (x .class) × FloatRow to ⌝ }
+    ensures { λ r. ⌜ r ≡ foundFit found (fitFloat (floatOf to) mode range x) ⌝ }
 {
     if let Lookup::Found(pattern) = found {
         return Fit::Pattern(pattern);
     }
-    if from.precision == to.precision {
-        return Fit::Pattern(b);
-    }
-    conversions::convert_float_to_float(element::read_float(b, from), to, mode, range)
+    conversions::convert_float_to_float(x, to, mode, range)
 }
 
-// By the route of the two kinds. What was found is told first: then it is told once, whatever the route.
+// By the route of the two kinds; to its own kind a pattern is unchanged. What was found is told first: then it is told once, whatever the route.
 pub fn step(b: u64, found: Lookup, route: Route, mode: RoundingMode, range: OutOfRangeMode) -> Fit
     requires { ⌜ RouteRow route × SourcePattern b route ⌝ }
     ensures { λ r. ⌜ r ≡ stepped found (sourceOf route) (targetOf route) mode range b ⌝ }
@@ -129,6 +147,7 @@ pub fn step(b: u64, found: Lookup, route: Route, mode: RoundingMode, range: OutO
         return Fit::Pattern(pattern);
     }
     match route {
+        Route::Same(_) => Fit::Pattern(b),
         Route::IntToInt { from, to } => {
             let x = integers::int_magnitude(b, from.signed, from.bits);
             step_int_to_int(x, found, to, range)
@@ -144,6 +163,8 @@ pub fn step(b: u64, found: Lookup, route: Route, mode: RoundingMode, range: OutO
             mode,
             range,
         ),
-        Route::FloatToFloat { from, to } => step_float_to_float(b, found, from, to, mode, range),
+        Route::FloatToFloat { from, to } => {
+            step_float_to_float(element::read_float(b, from), found, to, mode, range)
+        }
     }
 }

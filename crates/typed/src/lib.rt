@@ -207,7 +207,8 @@ fn step_f64_f32(src: &[f64], dst: &mut [f32], s: State, f: Lookup) -> State
     let at = s.at;
     let rounding = s.rounding;
     let range = s.range;
-    let fit = steps::step_float_to_float(s.x, f, kinds::F64, kinds::F32, rounding, range);
+    let x = floats::read_f64(s.x);
+    let fit = steps::step_float_to_float(x, f, kinds::F32, rounding, range);
     if let Fit::Pattern(pattern) = fit {
         dst[at] = typed_values::f32_of(pattern);
         return typed_states::state_f64(src, at + 1, rounding, range);
