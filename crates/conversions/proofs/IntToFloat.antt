@@ -1,4 +1,4 @@
--- An integer element going to a float kind: the f64 that holds its pick has the pick's bits there, for any narrower format and for f64 itself.
+-- An integer element going to a float kind: the f64 that is its pick has the pick's bits there, for any narrower format and for f64 itself.
 use mathlib.Core.Path.{_≡_, sym, ap, subst, _∙_}
 use mathlib.Core.Logic.{⊎-elim}
 use Prim.Native.Nat.{ℕ, _-_, _*_, _^_, _≤_, _<_}

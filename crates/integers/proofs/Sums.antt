@@ -1,4 +1,4 @@
--- The sum of two whole numbers that a format holds, where it holds the sum: nothing is rounded. Once for both formats.
+-- The sum of two whole numbers that a format represents, where it represents the sum: nothing is rounded. Once for both formats.
 use mathlib.Core.Path.{_≡_, refl, sym, ap, _∙_, subst}
 use mathlib.Core.Bool.{Bool, true, false, true≢false}
 use mathlib.Core.Logic.{_⊎_, inl, inr}

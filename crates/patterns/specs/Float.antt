@@ -2,7 +2,7 @@
 use Prim.Native.Nat.{ℕ, zero, suc, _+_, _-_, _*_, _/_, _%_, _^_}
 
 -- "Sign, exponent field and fraction": field x and fraction t of a float of p significant bits and smallest spacing 2^s.
--- Field 0 holds zero and the subnormal numbers; any other adds the leading bit.
+-- Field 0 has zero and the subnormal numbers; any other adds the leading bit.
 unfoldable pub fieldMag : ℕ → ℕ → ℕ → ℕ → ℕ
 fieldMag p s zero t = t * 2 ^ s
 fieldMag p s (suc x) t = (2 ^ (p - 1) + t) * 2 ^ (x + s)

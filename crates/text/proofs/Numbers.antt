@@ -1,4 +1,4 @@
--- Digits from the lowest on, and the fewest that hold a number.
+-- Digits from the lowest on, and the fewest that write a number.
 use mathlib.Core.Path.{_≡_, refl, sym, ap, ap₂, subst, _∙_}
 use mathlib.Core.Bool.{Bool, true, false, cond}
 use mathlib.Core.List.{List, _∷_, _++_}
@@ -103,7 +103,7 @@ decimal-room d a v k h room e = omega (arith, four-places v h)
 pub decimal-by : (d : List ℕ) (a v k r : ℕ) (d′ : List ℕ) → k ≡ places v → Wrote d a (digits 10 k v) r d′ → Wrote d a (decimal v) r d′
 decimal-by d a v k r d′ e w = subst (λ (z : ℕ). Wrote d a (digits 10 z v) r d′) e w
 
--- ---- the definition's places are the fewest that hold a number
+-- ---- the definition's places are the fewest that write a number
 pub record Fewest (v k : ℕ) : Type 0 where
   pub fits : v < 10 ^ k
   pub fewest : (j : ℕ) → k ≡ suc (suc j) → 10 ^ suc j ≤ v

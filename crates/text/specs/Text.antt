@@ -18,7 +18,7 @@ abbrev pub placesUpTo : ℕ → ℕ → ℕ
 placesUpTo zero v = 1
 placesUpTo (suc n) v = cond (leb (10 ^ suc n) v) (suc (suc n)) (placesUpTo n v)
 
--- the fewest decimal digits that hold v, at least one: 10^v is past v
+-- the fewest decimal digits that write v, at least one: 10^v is past v
 abbrev pub places : ℕ → ℕ
 places v = placesUpTo v v
 

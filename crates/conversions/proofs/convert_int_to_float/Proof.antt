@@ -1,4 +1,4 @@
--- `conversions::convert_int_to_float` meets its contract: the f64 holds the pick, and its bits are rebiased with nothing rounded.
+-- `conversions::convert_int_to_float` meets its contract: the f64 is the pick, and its bits are rebiased with nothing rounded.
 use mathlib.Core.Path.{_≡_, sym, ap, _∙_}
 use Prim.Native.Nat.{ℕ, _*_, _^_}
 use native.Mathlib.Omega.{arith}

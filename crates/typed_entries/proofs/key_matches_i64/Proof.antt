@@ -12,11 +12,11 @@ use Rattle.typed_entries.proofs.key_matches_i64.Tie as tie
 use Rattle.typed_entries.proofs.key_matches_i64.Statement.{statement}
 
 -- a signed number is read back from its bits as it was
-held : (c : tie.After-bits-i64) → toZ w64 (ofZ w64 (c .before .args .key)) ≡ c .before .args .key
-held c = search needs
+read-back : (c : tie.After-bits-i64) → toZ w64 (ofZ w64 (c .before .args .key)) ≡ c .before .args .key
+read-back c = search needs
 
 returns : tie.Need-returns
-returns c = let t = c .before in ap (eqb (t .args .x)) (c .bits-i64 .ensures ∙ ap i64Bits (held c)) ∙ integers-match true 64 (t .args .x) (i64Bits (t .args .key)) (lit< tt) (t .pre) (i64-fits (t .args .key))
+returns c = let t = c .before in ap (eqb (t .args .x)) (c .bits-i64 .ensures ∙ ap i64Bits (read-back c)) ∙ integers-match true 64 (t .args .x) (i64Bits (t .args .key)) (lit< tt) (t .pre) (i64-fits (t .args .key))
 
 pub key-matches-i64-spec : {M : Type 1} → statement M
 key-matches-i64-spec = tie.close (tie.spec (λ c κs. search needs) returns)

@@ -12,11 +12,11 @@ use Rattle.typed_entries.proofs.matches_i64_f32.Tie as tie
 use Rattle.typed_entries.proofs.matches_i64_f32.Statement.{statement}
 
 -- a signed number is read back from its bits as it was
-held : (c : tie.After-key-matches-i64) → toZ w64 (ofZ w64 (c .before .before .args .e .key)) ≡ c .before .before .args .e .key
-held c = search needs
+read-back : (c : tie.After-key-matches-i64) → toZ w64 (ofZ w64 (c .before .before .args .e .key)) ≡ c .before .before .args .e .key
+read-back c = search needs
 
 returns : tie.Need-returns
-returns c = c .key-matches-i64 .ensures ∙ ap (λ (z : ℤ). matches (valueOf (kindOf 3) (c .before .before .args .x)) (valueOf (kindOf 3) (i64Bits z))) (held c)
+returns c = c .key-matches-i64 .ensures ∙ ap (λ (z : ℤ). matches (valueOf (kindOf 3) (c .before .before .args .x)) (valueOf (kindOf 3) (i64Bits z))) (read-back c)
 
 pub matches-i64-f32-spec : {M : Type 1} → statement M
 matches-i64-f32-spec = tie.close (tie.spec (λ c κs. search needs) returns)
