@@ -66,10 +66,10 @@ pub fn normalize(n: u64, exponent: u64) -> Scaled
             exponent: 0,
         };
     }
-    let shift = u64::leading_zeros(n) - 11;
+    let zeros = u64::leading_zeros(n);
     Scaled {
-        significand: n << shift,
-        exponent: exponent - (shift as u64),
+        significand: (n << zeros) >> 11,
+        exponent: exponent - ((zeros as u64) - 11),
     }
 }
 
