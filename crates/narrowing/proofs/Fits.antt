@@ -1,10 +1,14 @@
 -- What a float comes to in a narrower format: a pick in range, one past it, an infinity and a NaN.
 use mathlib.Core.Path.{_≡_, refl, sym, ap, _∙_}
 use mathlib.Core.Bool.{Bool, true, false, cond}
+use mathlib.Core.List.{[], _∷_}
+use mathlib.Core.Logic.{⊎-elim}
 use Prim.Native.Nat.{ℕ, _+_, _-_, _*_, _/_, _%_, _^_, _≤_, _<_}
 use native.Mathlib.Omega.{arith}
 use lib.Dec.{lit<, lit≤}
 use lib.IntN.{ℤ}
+use denote.Enum.Declared.{tagOf}
+use types.Run.{OneOf}
 use borrow.Author.Tests.{le-ltb, lt-ltb, ne-eqb}
 use Rattle.grid.specs.Grid.{float}
 use Rattle.grid.specs.Round.{pick, pickMag, ruleFor, signed}
@@ -29,6 +33,7 @@ use Rattle.floats.specs.declared.Class.{Class}
 use Rattle.floats.specs.declared.Class.the-variants.{Finite, Infinite, NotANumber}
 use Rattle.floats.specs.declared.Float.{Float}
 use Rattle.floats.specs.declared.Scaled.{Scaled}
+use Rattle.floats.proofs.Class.{the-type}
 use Rattle.cast_spec.specs.Fit.{fitOf, fitNumber}
 use Rattle.narrowing.specs.Fit.{overrunFit, fitBits, fitClass, fitFloat}
 
@@ -94,8 +99,14 @@ module _ (p w s : ℕ) (mode : RoundingMode) (range : OutOfRangeMode) (f : Float
   pub finite-fit : (x : Scaled) → f .class ≡ Finite x → fitNumber (binary p w s) mode range (f .negative) (signed (f .negative) (x .significand * 2 ^ x .exponent)) ≡ fitFloat (binary p w s) mode range f
   finite-fit x e = ap (fitClass (binary p w s) mode range f) (sym e)
 
-  pub infinite-fit : f .class ≡ Infinite → Pattern (infinity p w (f .negative)) ≡ fitFloat (binary p w s) mode range f
-  infinite-fit e = ap (fitClass (binary p w s) mode range f) (sym e)
+  -- a class that is neither `Finite` nor `NotANumber`, as a program tells it: by the number of its variant
+  pub infinite-fit : OneOf (1 ∷ 2 ∷ []) (tagOf the-type (f .class)) → OneOf (0 ∷ 1 ∷ []) (tagOf the-type (f .class)) → Pattern (infinity p w (f .negative)) ≡ fitFloat (binary p w s) mode range f
+  infinite-fit = go (f .class)
+    where
+      go : (c : Class) → OneOf (1 ∷ 2 ∷ []) (tagOf the-type c) → OneOf (0 ∷ 1 ∷ []) (tagOf the-type c) → Pattern (infinity p w (f .negative)) ≡ fitClass (binary p w s) mode range f c
+      go (Finite m) t u = absurd (⊎-elim (λ (e : _≡_ {A = ℕ} 0 1). omega arith) (λ (e : _≡_ {A = ℕ} 0 2). omega arith) t)
+      go Infinite t u = refl
+      go (NotANumber m) t u = absurd (⊎-elim (λ (e : _≡_ {A = ℕ} 2 0). omega arith) (λ (e : _≡_ {A = ℕ} 2 1). omega arith) u)
 
   -- the sign and the fraction of the f64 that stands for a NaN
   module _ (t : ℕ) (e : f .class ≡ NotANumber t) (small : t < 2 ^ 52) where

@@ -74,17 +74,15 @@ fn narrow(x: Float, p: u32, w: u32, s: u64, mode: RoundingMode, range: OutOfRang
 {
     let negative = x.negative;
     let class = x.class;
-    let sign = floats::sign_bit(negative, w + p - 1);
-    match class {
-        Class::Finite(magnitude) => {
-            let bits = narrow_magnitude(magnitude, p, s, mode, negative);
-            fit_bits(bits, negative, p, w, range)
-        }
-        Class::Infinite => Fit::Pattern(sign + infinity_bits(p, w)),
-        Class::NotANumber { fraction } => {
-            Fit::Pattern(sign + (infinity_bits(p, w) + quiet_fraction(fraction, p)))
-        }
+    if let Class::Finite(magnitude) = class {
+        let bits = narrow_magnitude(magnitude, p, s, mode, negative);
+        return fit_bits(bits, negative, p, w, range);
     }
+    let infinity = floats::sign_bit(negative, w + p - 1) + infinity_bits(p, w);
+    if let Class::NotANumber { fraction } = class {
+        return Fit::Pattern(infinity + quiet_fraction(fraction, p));
+    }
+    Fit::Pattern(infinity)
 }
 
 // A float rounded to f32.
