@@ -156,15 +156,13 @@ pub fn step(b: u64, found: Lookup, route: Route, mode: RoundingMode, range: OutO
             let x = integers::int_magnitude(b, from.signed, from.bits);
             step_int_to_float(x, found, to, mode, range)
         },
-        Route::FloatToInt { from, to } => step_float_to_int(
-            element::read_float(b, from),
-            found,
-            to,
-            mode,
-            range,
-        ),
+        Route::FloatToInt { from, to } => {
+            let x = element::read_float(b, from);
+            step_float_to_int(x, found, to, mode, range)
+        }
         Route::FloatToFloat { from, to } => {
-            step_float_to_float(element::read_float(b, from), found, to, mode, range)
+            let x = element::read_float(b, from);
+            step_float_to_float(x, found, to, mode, range)
         }
     }
 }
