@@ -12,8 +12,9 @@ use Rattle.cast_spec.specs.Chunk.{Inputs, sw, dw, codesListed, mapWhole, bytesW
 use Rattle.cast_spec.specs.Demand3.{Contract}
 use Rattle.cast_spec.proofs.Demand3.{contract}
 use Rattle.kinds.specs.Codes.{kindOf, rangeOf, roundingOf}
-use Rattle.chunk.specs.declared.Settings.{Settings}
-use Rattle.chunk.specs.Run.{MapReady, Ready, RunReady, outcomes, settingsBy, settingsFor, Ran}
+use Rattle.chunk_element.specs.declared.Settings.{Settings}
+use Rattle.chunk_element.specs.Settings.{MapReady, Ready, settingsFor}
+use Rattle.chunk.specs.Run.{RunReady, outcomes, settingsBy, Ran}
 use Rattle.kinds.specs.declared.Answer.{Answer}
 use Rattle.kinds.specs.declared.KindRow.{KindRow}
 use Rattle.kinds.specs.declared.OutOfRangeMode.{OutOfRangeMode}
@@ -23,8 +24,8 @@ use Rattle.patterns.specs.Kind.{Kind, bits, width}
 use Rattle.kinds.specs.Row.{formatOf, rowOf}
 use Rattle.cast_spec.specs.Element as E
 use Rattle.cast_spec.proofs.Widths.{listed-width, width-bits}
-use Rattle.steps.specs.declared.Route.{Route}
-use Rattle.steps.specs.Route.{routeOf}
+use Rattle.routes.specs.declared.Route.{Route}
+use Rattle.routes.specs.Route.{routeOf}
 use Rattle.kinds.specs.declared.Answer.the-variants as A
 
 -- ---- the settings that a program puts together

@@ -8,10 +8,12 @@ use native.Mathlib.Omega.{arith}
 use lib.ListN.{length-append, length-drop, length-take, length, take, drop}
 use lib.Seq.{drop-drop}
 use Rattle.cast_spec.specs.Element.{outcomeOf}
-use Rattle.chunk.specs.declared.Settings.{Settings}
+use Rattle.chunk_element.specs.declared.Settings.{Settings}
 use Rattle.cast_spec.proofs.Runs.{Run}
 use Rattle.kinds.specs.declared.Answer.{Answer}
-use Rattle.chunk.specs.Run.{ConvertedAt, PlaceReady, RunReady, outcomes, refusedAnswer, settingsFor, storedAt}
+use Rattle.chunk_element.specs.Settings.{settingsFor}
+use Rattle.chunk_element.specs.Place.{ConvertedAt, PlaceReady, refusedAnswer, storedAt}
+use Rattle.chunk.specs.Run.{RunReady, outcomes}
 use Rattle.kinds.specs.declared.Outcome.{Outcome}
 use Rattle.kinds.specs.declared.Fit.{Fit}
 use Rattle.kinds.specs.declared.Fit.the-variants.{Pattern}
@@ -20,7 +22,7 @@ use Rattle.cast_spec.specs.Chunk.{answerFrom, answerNext, bytesFrom, Refuses}
 use Rattle.bytes_le.specs.Bytes.{fromLe, patternAt, toLe, put}
 use Rattle.bytes_le.proofs.Sums.{length-toLe}
 use Rattle.cast_spec.proofs.Outcomes.{stored-pattern}
-use Rattle.chunk.proofs.Elements.{not-stored, refused-is}
+use Rattle.chunk_element.proofs.Elements.{not-stored, refused-is}
 use Rattle.kinds.specs.declared.Answer.the-variants as A
 use Rattle.cast_spec.specs.Element as E
 use Rattle.cast_spec.proofs.Runs as runs

@@ -3,4 +3,3 @@ pub mod FloatForms
 pub mod Integers
 pub mod SameKind
 pub mod Steps
-pub mod Routes

@@ -9,8 +9,9 @@ use Rattle.kinds.specs.declared.Answer.{Answer}
 use Rattle.kinds.specs.declared.Answer.the-variants as A
 use Rattle.cast_spec.specs.Chunk.{Inputs, inputs, codesListed, mapWhole, bytesWhole, sw, dw}
 use Rattle.cast_spec.specs.Demand3.{Contract}
-use Rattle.chunk.specs.Run.{settingsFor, settingsBy, RunReady, Ran}
-use Rattle.chunk.specs.declared.Settings.{Settings}
+use Rattle.chunk_element.specs.Settings.{settingsFor}
+use Rattle.chunk.specs.Run.{settingsBy, RunReady, Ran}
+use Rattle.chunk_element.specs.declared.Settings.{Settings}
 use Rattle.cast_spec.proofs.Widths.{width-pos}
 use Rattle.cast_spec.proofs.Refusals.{unknown, broken-map, broken-element, mismatch}
 use Rattle.chunk.proofs.Exits.{listed-codes, run-asks, run-whole}

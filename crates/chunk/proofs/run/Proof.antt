@@ -11,7 +11,8 @@ use Rattle.kinds.specs.declared.Fit.the-variants.{Pattern}
 use Rattle.kinds.specs.declared.Answer.the-variants.{Converted}
 use Rattle.cast_spec.specs.Chunk.{answerNext, Refuses}
 use Rattle.cast_spec.specs.Fit.{fitOf}
-use Rattle.chunk.specs.Run.{outcomes, settingsFor}
+use Rattle.chunk_element.specs.Settings.{settingsFor}
+use Rattle.chunk.specs.Run.{outcomes}
 use Rattle.cast_spec.proofs.Outcomes.{refuses}
 use Rattle.chunk.proofs.Loop.{At, finalAnswer, finalBytes, starts, ends, fit-is, stops, goes-on, source-end, target-end, turn-asks, refused-answer}
 use Rattle.chunk.proofs.run.Statement.{statement}
