@@ -1,9 +1,9 @@
--- Demand 1 holds of the answer and the destination that the definitions give, so of every call that meets the contract.
+-- Demand 1 holds of the answer and the destination that the definitions give; and it leaves one number and one set of values for any inputs.
 use mathlib.Core.Path.{_≡_, refl, ap, _∙_, sym, subst}
-use mathlib.Core.Logic.{⊎-elim, inl, inr, _⊎_}
+use mathlib.Core.Logic.{⊎-elim, inl, inr, _⊎_, _↔_}
 use mathlib.Core.Bool.{Bool, true, false, cond, _&&_}
 use mathlib.Core.List.{List, _++_}
-use Prim.Native.Nat.{suc, zero, ℕ, _+_, _*_, _%_, _^_, _≤_, _<_}
+use Prim.Native.Nat.{suc, zero, ℕ, _+_, _*_, _/_, _%_, _^_, _≤_, _<_}
 use native.Mathlib.Nat.{add-zero, zero-add}
 use native.Mathlib.Omega.{arith}
 use lib.Dec.{lit≤, T}
@@ -11,17 +11,20 @@ use lib.ListN.{length, drop}
 use lib.Seq.{drop-append-add, drop-drop}
 use Rattle.bytes_le.proofs.Places.{first-place, next-place}
 use Rattle.kinds.specs.declared.Answer.{Answer}
-use Rattle.kinds.specs.declared.Answer.the-variants.{BrokenElement, BrokenMap, LengthMismatch, UnknownCode}
 use Rattle.kinds.specs.declared.Outcome.the-variants.{FloatOutOfRange, NanOrInf, OutOfRange, Stored}
 use Rattle.kinds.specs.declared.Outcome.{Outcome}
-use Rattle.cast_spec.specs.Chunk.{Refuses, dw, answerFrom, answerNext, bytesFrom, bytesNext, Inputs, answerOf, bytesWhole, callOf, codesListed, countsMeet, destinationOf, mapWhole, outcomeAt}
+use Rattle.cast_spec.specs.Chunk.{Refuses, Reached, sw, dw, answerFrom, answerNext, bytesFrom, bytesNext, Inputs, answerOf, bytesWhole, callOf, codesListed, countsMeet, destinationOf, mapWhole, outcomeAt}
 use Rattle.cast_spec.proofs.Places.{later}
 use Rattle.bytes_le.proofs.Sums.{length-toLe}
-use Rattle.kinds.specs.Answer.{numberOf, positionOf}
+use Rattle.patterns.specs.Kind.{Kind}
+use Rattle.patterns.specs.Value.{Value}
+use Rattle.kinds.specs.Codes.{kindOf}
+use Rattle.kinds.specs.Answer.{numberOf, noValues, bothCounts, valuesOf, positionOf, outcomeNumber, outcomeValues}
 use Rattle.bytes_le.specs.Bytes.{patternAt, toLe}
-use Rattle.cast_spec.specs.Demand3.{Contract}
 use Rattle.cast_spec.specs.Demand1.{ConvertedTo, Demand1}
-use Rattle.cast_spec.proofs.Demand3.{answer-is, destination-is}
+use Rattle.cast_spec.proofs.Checks.{answer-is, destination-is, long-written, checked, Causes, causes}
+use Rattle.cast_spec.proofs.Each.{Served}
+use Rattle.cast_spec.proofs.Demand3.{at-place}
 use Rattle.kinds.specs.declared.Answer.the-variants as A
 
 numbers : (r : Answer) → numberOf r ≤ 7
@@ -36,22 +39,29 @@ numbers (A.FloatOutOfRange i v lo hi) = lit≤ tt
 
 -- ---- n outcomes from the position a on
 module _ (o : ℕ → Outcome) (w : ℕ) where
+  -- the answer r names a position before e, whose outcome has its number and its values
+  abbrev Told : Answer → ℕ → Type 0
+  Told r e = (positionOf r < e) × (numberOf r ≡ outcomeNumber (o (positionOf r))) × (valuesOf r ≡ outcomeValues (positionOf r) (o (positionOf r)))
+
   -- a refusal that is told lies among them, and is its element's own
-  told : (a n : ℕ) → 5 ≤ numberOf (answerFrom o a n) → (positionOf (answerFrom o a n) < a + n) × Refuses (o (positionOf (answerFrom o a n)))
+  told : (a n : ℕ) → 5 ≤ numberOf (answerFrom o a n) → Told (answerFrom o a n) (a + n)
   told a zero h = absurd (omega arith)
   told a (suc n) h = go (o a) refl (told (suc a) n) h
     where
       R : Answer
       R = answerFrom o (suc a) n
 
-      here : a < a + suc n
-      here = omega arith
+      here : (x : Outcome) → o a ≡ x → 5 ≤ outcomeNumber x → Told (answerNext x a R) (a + suc n)
+      here (Stored b) e l = absurd (omega arith)
+      here (NanOrInf v) e l = (omega arith, ap outcomeNumber (sym e), ap (outcomeValues a) (sym e))
+      here (OutOfRange v lo hi) e l = (omega arith, ap outcomeNumber (sym e), ap (outcomeValues a) (sym e))
+      here (FloatOutOfRange v lo hi) e l = (omega arith, ap outcomeNumber (sym e), ap (outcomeValues a) (sym e))
 
-      go : (x : Outcome) → o a ≡ x → (5 ≤ numberOf R → (positionOf R < suc a + n) × Refuses (o (positionOf R))) → 5 ≤ numberOf (answerNext x a R) → (positionOf (answerNext x a R) < a + suc n) × Refuses (o (positionOf (answerNext x a R)))
-      go (Stored b) e f h = let g = f h in (omega (arith, g .0), g .1)
-      go (NanOrInf v) e f h = (here, subst Refuses (sym e) tt)
-      go (OutOfRange v lo hi) e f h = (here, subst Refuses (sym e) tt)
-      go (FloatOutOfRange v lo hi) e f h = (here, subst Refuses (sym e) tt)
+      go : (x : Outcome) → o a ≡ x → (5 ≤ numberOf R → Told R (suc a + n)) → 5 ≤ numberOf (answerNext x a R) → Told (answerNext x a R) (a + suc n)
+      go (Stored b) e f h = let g = f h in (omega (arith, g .0), g .1, g .2)
+      go (NanOrInf v) e f h = here (NanOrInf v) e (lit≤ tt)
+      go (OutOfRange v lo hi) e f h = here (OutOfRange v lo hi) e (lit≤ tt)
+      go (FloatOutOfRange v lo hi) e f h = here (FloatOutOfRange v lo hi) e (lit≤ tt)
 
   -- an element before any refusal is stored, and its place holds it
   stored : (a n i : ℕ) (d : List ℕ) → i < n → (5 ≤ numberOf (answerFrom o a n) → a + i < positionOf (answerFrom o a n)) → (b : ℕ) × (o (a + i) ≡ Stored b) × (patternAt w (bytesFrom o w a n d) i ≡ b % 256 ^ w)
@@ -114,12 +124,45 @@ elements-answer o a (suc n) = go (o a) (elements-answer o (suc a) n)
     go (FloatOutOfRange v lo hi) f = inr (lit≤ tt)
 
 -- checks that do not pass answer 1 to 4
-checks-answer : (a b c d : Bool) (x : Answer) (s t : ℕ) → a && b && c && d ≡ false → let r = cond a (cond b (cond c (cond d x (A.LengthMismatch s t)) A.BrokenElement) A.BrokenMap) A.UnknownCode in (1 ≤ numberOf r) × (numberOf r ≤ 4)
+checks-answer : (a b c d : Bool) (x : Answer) (s t : ℕ) → a && b && c && d ≡ false → let r = checked a b c d x s t in (1 ≤ numberOf r) × (numberOf r ≤ 4)
 checks-answer true true true true x s t e = let z : _≡_ {A = ℕ} 0 1 = cc in absurd (omega arith)
 checks-answer true true true false x s t e = (lit≤ tt, lit≤ tt)
 checks-answer true true false d x s t e = (lit≤ tt, lit≤ tt)
 checks-answer true false c d x s t e = (lit≤ tt, lit≤ tt)
 checks-answer false b c d x s t e = (lit≤ tt, lit≤ tt)
+
+-- the number 4 comes with both counts
+counted : (a b c d : Bool) (x : Answer) (s t : ℕ) → (numberOf x ≡ 0) ⊎ (5 ≤ numberOf x) → let r = checked a b c d x s t in numberOf r ≡ 4 → valuesOf r ≡ bothCounts s t
+counted true true true true x s t h e = absurd (⊎-elim (λ (z : numberOf x ≡ 0). omega arith) (λ (l : 5 ≤ numberOf x). omega arith) h)
+counted true true true false x s t h e = refl
+counted true true false d x s t h e = absurd (omega arith)
+counted true false c d x s t h e = absurd (omega arith)
+counted false b c d x s t h e = absurd (omega arith)
+
+-- an outcome that refuses has one of the numbers from 5 on
+refuses : (x : Outcome) → 5 ≤ outcomeNumber x → Refuses x
+refuses (Stored b) h = absurd (omega arith)
+refuses (NanOrInf v) h = tt
+refuses (OutOfRange v lo hi) h = tt
+refuses (FloatOutOfRange v lo hi) h = tt
+
+-- a place that is served as a refused outcome asks has that refusal's number and position
+refused-by : (k : Kind) (r : Answer) (v : Value) (i : ℕ) (x : Outcome) → Served k r v i x → 5 ≤ outcomeNumber x → (numberOf r ≡ outcomeNumber x) × (positionOf r ≡ i)
+refused-by k r v i (Stored b) s h = absurd (omega arith)
+refused-by k r v i (NanOrInf u) s h = s
+refused-by k r v i (OutOfRange u lo hi) s h = s
+refused-by k r v i (FloatOutOfRange u lo hi) s h = s
+
+-- an answer of the number 0 to 3 has no values
+plain-values : (r : Answer) → numberOf r ≤ 3 → valuesOf r ≡ noValues
+plain-values A.Converted h = refl
+plain-values A.UnknownCode h = refl
+plain-values A.BrokenMap h = refl
+plain-values A.BrokenElement h = refl
+plain-values (A.LengthMismatch s d) h = absurd (omega arith)
+plain-values (A.NanOrInf i v) h = absurd (omega arith)
+plain-values (A.OutOfRange i v lo hi) h = absurd (omega arith)
+plain-values (A.FloatOutOfRange i v lo hi) h = absurd (omega arith)
 
 module _ (I : Inputs) where
   abbrev o : ℕ → Outcome
@@ -136,6 +179,14 @@ module _ (I : Inputs) where
   unfolding destinationOf
   left-alone e = ap (λ (c : Bool). cond c (bytesFrom o (dw I) 0 n (I .destination)) (I .destination)) e
 
+  why : Causes (codesListed I) (mapWhole I) (bytesWhole I) (countsMeet I) (answerOf I)
+  unfolding answerOf
+  why = causes (codesListed I) (mapWhole I) (bytesWhole I) (countsMeet I) _ _ _ (elements-answer o 0 n)
+
+  both-counts : numberOf (answerOf I) ≡ 4 → valuesOf (answerOf I) ≡ bothCounts (length (I .source) / sw I) (length (I .destination) / dw I)
+  unfolding answerOf
+  both-counts e = counted (codesListed I) (mapWhole I) (bytesWhole I) (countsMeet I) _ _ _ (elements-answer o 0 n) e
+
   module _ (t : T (callOf I .passed)) where
     place : (i : ℕ) → i < n → (5 ≤ numberOf (answerOf I) → i < positionOf (answerOf I)) → ConvertedTo I (destinationOf I) i
     place i l h =
@@ -148,34 +199,62 @@ module _ (I : Inputs) where
         ap (drop (p * dw I)) (destination-is I t)
         ∙ kept o (dw I) 0 n p (I .destination) (subst (λ (r : Answer). 5 ≤ numberOf r) (answer-is I t) h) (ap positionOf (sym (answer-is I t)) ∙ sym (zero-add p))
 
-    bad-one : 5 ≤ numberOf (answerOf I) → (positionOf (answerOf I) < n) × Refuses (o (positionOf (answerOf I)))
-    bad-one h = subst (λ (r : Answer). (positionOf r < n) × Refuses (o (positionOf r))) (sym (answer-is I t))
-        (subst (λ (z : ℕ). (positionOf (answerFrom o 0 n) < z) × Refuses (o (positionOf (answerFrom o 0 n)))) (zero-add n) (told o (dw I) 0 n (subst (λ (r : Answer). 5 ≤ numberOf r) (answer-is I t) h)))
+    own : 5 ≤ numberOf (answerOf I) → Told o (dw I) (answerOf I) n
+    own h = subst (λ (r : Answer). Told o (dw I) r n) (sym (answer-is I t)) (subst (λ (z : ℕ). Told o (dw I) (answerFrom o 0 n) z) (zero-add n) (told o (dw I) 0 n (subst (λ (r : Answer). 5 ≤ numberOf r) (answer-is I t) h)))
+
+    reached : 5 ≤ numberOf (answerOf I) → Reached (callOf I) (positionOf (answerOf I))
+    reached h = record { passed = t; within = own h .0; before = λ k l r. subst Refuses (place k (omega (arith, own h .0)) (λ _. l) .outcome) r }
 
     not-early : 1 ≤ numberOf (answerOf I) → numberOf (answerOf I) ≤ 4 → ⊥
     not-early l h = ⊎-elim (λ (e : numberOf (answerFrom o 0 n) ≡ 0). omega (arith, ap numberOf (answer-is I t))) (λ (e : 5 ≤ numberOf (answerFrom o 0 n)). omega (arith, ap numberOf (answer-is I t))) (elements-answer o 0 n)
 
-  demand1 : Demand1 I (answerOf I) (destinationOf I)
-  demand1 = go (callOf I .passed) refl
-    where
-      go : (c : Bool) → callOf I .passed ≡ c → Demand1 I (answerOf I) (destinationOf I)
-      go true e = let t = subst T (sym e) tt in record {
-        numbered = numbers (answerOf I);
-        all-converted = λ z i l. place t i l (λ h. absurd (omega arith));
-        untouched = λ l h. absurd (not-early t l h);
-        bad = λ h. bad-one t h;
-        before = λ h i l. place t i (omega (arith, bad-one t h .0)) (λ _. l);
-        after = λ h. rest t h;
-      }
-      go false e = let r = refused-early e in record {
-        numbered = numbers (answerOf I);
-        all-converted = λ z i l. absurd (omega arith);
-        untouched = λ l h. left-alone e;
-        bad = λ h. absurd (omega arith);
-        before = λ h i l. absurd (omega arith);
-        after = λ h. absurd (omega arith);
-      }
+  abbrev Bad : ℕ → ℕ → Type 0
+  Bad m i = ((numberOf (answerOf I) ≡ m) × (positionOf (answerOf I) ≡ i)) ↔ (Reached (callOf I) i × (outcomeNumber (o i) ≡ m))
 
--- so it holds of any call that meets the contract
-pub demand1-of : (I : Inputs) (r : Answer) (d : List ℕ) → Contract I r d → Demand1 I r d
-demand1-of I r d C = subst (λ (z : List ℕ). Demand1 I r z) (sym (C .bytes)) (subst (λ (a : Answer). Demand1 I a (destinationOf I)) (sym (C .answer)) (demand1 I))
+  -- a reached element whose steps refuse it is the one that the answer names
+  named : (m i : ℕ) → 5 ≤ m → Reached (callOf I) i × (outcomeNumber (o i) ≡ m) → (numberOf (answerOf I) ≡ m) × (positionOf (answerOf I) ≡ i)
+  named m i l p = let s = refused-by (kindOf (I .to)) (answerOf I) _ i (o i) (at-place I i (p .0)) (subst (λ (z : ℕ). 5 ≤ z) (sym (p .1)) l) in (s .0 ∙ p .1, s .1)
+
+  first-of : T (callOf I .passed) → (m i : ℕ) → 5 ≤ m → Bad m i
+  first-of t m i l = (
+    λ p. let h : 5 ≤ numberOf (answerOf I) = subst (λ (z : ℕ). 5 ≤ z) (sym (p .0)) l in
+        (subst (Reached (callOf I)) (p .1) (reached t h), ap (λ (z : ℕ). outcomeNumber (o z)) (sym (p .1)) ∙ sym (own t h .1) ∙ p .0),
+    named m i l,
+  )
+
+  demand1-of : (c : Bool) → callOf I .passed ≡ c → Demand1 I (answerOf I) (destinationOf I)
+  demand1-of true e = let t = subst T (sym e) tt in record {
+    numbered = numbers (answerOf I);
+    unknown-code = why .one;
+    broken-map = why .two;
+    broken-element = why .three;
+    length-mismatch = why .four;
+    first-bad = first-of t;
+    plain = plain-values (answerOf I);
+    counts = both-counts;
+    of-element = λ h. own t h .2;
+    long = ap length (destination-is I t) ∙ long-written I t;
+    untouched = λ l h. absurd (not-early t l h);
+    all-converted = λ z i l. place t i l (λ h. absurd (omega arith));
+    before = λ h i l. place t i (omega (arith, own t h .0)) (λ _. l);
+    after = λ h. rest t h;
+  }
+  demand1-of false e = let r = refused-early e in record {
+    numbered = numbers (answerOf I);
+    unknown-code = why .one;
+    broken-map = why .two;
+    broken-element = why .three;
+    length-mismatch = why .four;
+    first-bad = λ m i l. (λ p. absurd (omega (arith, p .0)), named m i l);
+    plain = plain-values (answerOf I);
+    counts = both-counts;
+    of-element = λ h. absurd (omega arith);
+    long = ap length (left-alone e);
+    untouched = λ l h. left-alone e;
+    all-converted = λ z i l. absurd (omega arith);
+    before = λ h i l. absurd (omega arith);
+    after = λ h. absurd (omega arith);
+  }
+
+  pub demand1 : Demand1 I (answerOf I) (destinationOf I)
+  demand1 = demand1-of (callOf I .passed) refl

@@ -1,7 +1,6 @@
 -- Demand 3 holds of the answer and the destination that the definitions give, whatever the inputs are.
 use mathlib.Core.Path.{_≡_, refl, sym, subst}
-use mathlib.Core.Bool.{Bool, true, false, _&&_, cond}
-use mathlib.Core.List.{List}
+use mathlib.Core.Bool.{Bool, true, false, cond}
 use Prim.Native.Nat.{ℕ, _-_, _*_, _^_, _<_}
 use native.Mathlib.Nat.{mul-pos, zero-add}
 use lib.Dec.{T, ltb, eqb, lit<, lit≤}
@@ -10,10 +9,11 @@ use lib.Pow.{pow-pos}
 use Rattle.patterns.specs.Kind.{Kind, integer, binary, WellFormed}
 use Rattle.kinds.specs.Codes.{kindOf}
 use Rattle.patterns.specs.Value.{Value, valueOf}
-use Rattle.cast_spec.specs.Chunk.{Inputs, Call, dw, settingsOf, codesListed, mapWhole, bytesWhole, countsMeet, callOf, outcomeAt, answerFrom, answerOf, bytesFrom, destinationOf, resultAt}
+use Rattle.cast_spec.specs.Chunk.{Inputs, Call, Reached, dw, settingsOf, callOf, outcomeAt, answerFrom, answerOf, bytesFrom, destinationOf, resultAt}
 use Rattle.bytes_le.specs.Bytes.{patternAt}
-use Rattle.cast_spec.specs.Demand3.{Reached, Taken, Rounded, Demand3, Contract}
+use Rattle.cast_spec.specs.Demand3.{Taken, Rounded, Demand3}
 use Rattle.kinds.specs.declared.Answer.{Answer}
+use Rattle.cast_spec.proofs.Checks.{answer-is, destination-is}
 use Rattle.cast_spec.proofs.Each.{Served, each-of}
 use Rattle.cast_spec.proofs.Places.{served}
 use Rattle.cast_spec.proofs.Order.{order-of}
@@ -36,44 +36,20 @@ good c = go (ltb c 4) (ltb c 8) (eqb c 8)
     go false false true = (lit≤ tt, lit< tt)
     go false false false = (lit≤ tt, lit< tt)
 
--- ---- the checks pass
-passes : (a b c d : Bool) (x p q r s : Answer) → T (a && b && c && d) → cond a (cond b (cond c (cond d x p) q) r) s ≡ x
-passes true true true true x p q r s t = refl
-passes true true true false x p q r s t = absurd t
-passes true true false d x p q r s t = absurd t
-passes true false c d x p q r s t = absurd t
-passes false b c d x p q r s t = absurd t
-
-chosen : (a : Bool) (x y : List ℕ) → T a → cond a x y ≡ x
-chosen true x y t = refl
-chosen false x y t = absurd t
-
 module _ (I : Inputs) where
-  pub answer-is : T (callOf I .passed) → answerOf I ≡ answerFrom (outcomeAt (callOf I)) 0 (callOf I .count)
-  unfolding answerOf callOf
-  answer-is t = passes (codesListed I) (mapWhole I) (bytesWhole I) (countsMeet I) _ _ _ _ _ t
-
-  pub destination-is : T (callOf I .passed) → destinationOf I ≡ bytesFrom (outcomeAt (callOf I)) (dw I) 0 (callOf I .count) (I .destination)
-  unfolding destinationOf
-  destination-is t = chosen (callOf I .passed) _ _ t
-
   pub to-is : callOf I .settings .to ≡ kindOf (I .to)
   unfolding callOf settingsOf
   to-is = refl
 
-  at-place : (i : ℕ) → Reached (callOf I) i → Served (kindOf (I .to)) (answerOf I) (resultAt I (destinationOf I) i) i (outcomeAt (callOf I) i)
+  pub at-place : (i : ℕ) → Reached (callOf I) i → Served (kindOf (I .to)) (answerOf I) (resultAt I (destinationOf I) i) i (outcomeAt (callOf I) i)
   unfolding resultAt
   at-place i R =
       let c = callOf I in
       let k = kindOf (I .to) in
-      rw (answer-is (R .passed), destination-is (R .passed))
+      rw (answer-is I (R .passed), destination-is I (R .passed))
       (subst (λ (z : ℕ). Served k (answerFrom (outcomeAt c) 0 (c .count)) (valueOf k (patternAt (dw I) (bytesFrom (outcomeAt c) (dw I) 0 (c .count) (I .destination)) i)) z (outcomeAt c z)) (zero-add i)
       (served (outcomeAt c) (dw I) k i 0 (c .count) (I .destination) (kind-fits (I .to)) (R .within) (λ j a b. R .before j (subst (λ (z : ℕ). j < z) (zero-add i) b))))
 
   pub demand3 : Demand3 (callOf I) (answerOf I) (resultAt I (destinationOf I))
   demand3 = demand3-of (callOf I) (answerOf I) (resultAt I (destinationOf I)) (subst WellFormed (sym to-is) (good (I .to)))
       (λ i R. subst (λ (k : Kind). Served k (answerOf I) (resultAt I (destinationOf I) i) i (outcomeAt (callOf I) i)) (sym to-is) (at-place i R))
-
--- so the two equations are all that a program has to show
-pub contract : (I : Inputs) (r : Answer) (d : List ℕ) → r ≡ answerOf I → d ≡ destinationOf I → Contract I r d
-contract I r d e f = record { answer = e; bytes = f; demand3 = subst (λ (z : List ℕ). Demand3 (callOf I) r (resultAt I z)) (sym f) (subst (λ (a : Answer). Demand3 (callOf I) a (resultAt I (destinationOf I))) (sym e) (demand3 I)) }

@@ -3,10 +3,13 @@ pub mod Steps
 pub mod Each
 pub mod Places
 pub mod Widths
+pub mod Checks
 pub mod Demand3
+pub mod Demand1
+pub mod Contract
 pub mod Refusals
 pub mod Runs
-pub mod Demand1
+pub mod OneAnswer
 pub mod Strength
 pub mod Samples
 pub mod Witness

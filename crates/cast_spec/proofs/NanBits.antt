@@ -4,7 +4,7 @@ use mathlib.Core.Logic.{_⊎_, inl, inr}
 use mathlib.Core.Bool.{Bool, true, false, _&&_, cond}
 use mathlib.Core.List.{List, _++_}
 use Prim.Native.Nat.{ℕ, zero, suc, _+_, _-_, _*_, _/_, _%_, _^_, _≤_, _<_}
-use native.Mathlib.Nat.{mod-lt, mod-mod, zero-add, div-add-mod'}
+use native.Mathlib.Nat.{mod-lt, mod-mod, zero-add}
 use native.Mathlib.Omega.{arith}
 use lib.Dec.{T, ltb, eqb, eqb→eq, lit<, lit≤}
 use lib.ListN.{length, take, drop, length-append, length-drop}
@@ -31,9 +31,10 @@ use Rattle.kinds.specs.declared.Answer.{Answer}
 use Rattle.kinds.specs.declared.Answer.the-variants as A
 use Rattle.cast_spec.specs.Element.{Entry, Settings, matches, lookupOf, foundOr, converted, outcomeOf}
 use Rattle.cast_spec.specs.Chunk.{Inputs, inputs, entriesFrom, sw, dw, settingsOf, codesListed, mapWhole, bytesWhole, countsMeet, callOf, outcomeAt, answerNext, answerFrom, answerOf, bytesNext, bytesFrom, destinationOf}
-use Rattle.cast_spec.specs.Demand3.{Contract}
+use Rattle.cast_spec.specs.Contract.{Contract}
 use Rattle.cast_spec.specs.NanBits.{Alike, AlikeBytes, AlikeInputs, SameAnswer, SameButNans}
 use Rattle.cast_spec.proofs.Widths.{kind-fits}
+use Rattle.cast_spec.proofs.Checks.{second-fourth, counts-meet, long-written}
 use Rattle.cast_spec.proofs.Steps.{no-map}
 
 -- ---- a NaN is one by the bits below its sign
@@ -241,18 +242,6 @@ module _ (k : Kind) (o o′ : ℕ → Outcome) where
     bytes-alike zero i d d′ h g = g
     bytes-alike (suc n) i d d′ h g = bytes-next n (o i) (o′ i) d d′ (bytesFrom o w (suc i) n (drop w d)) (bytesFrom o′ w (suc i) n (drop w d′)) (h i (omega arith) (omega arith)) g (bytes-alike n (suc i) (drop w d) (drop w d′) (next-alikes i n h) (after n d d′ g))
 
--- places that are there keep the destination's length
-module _ (o : ℕ → Outcome) (w : ℕ) where
-  length-bytes : (n i : ℕ) (d : List ℕ) → n * w ≤ length d → length (bytesFrom o w i n d) ≡ length d
-  length-bytes zero i d h = refl
-  length-bytes (suc n) i d h = go (o i) (bytesFrom o w (suc i) n (drop w d)) (length-bytes n (suc i) (drop w d) (subst (λ (z : ℕ). n * w ≤ z) (sym (length-drop w d)) (omega arith)) ∙ length-drop w d)
-    where
-      go : (x : Outcome) (r : List ℕ) → length r ≡ length d - w → length (bytesNext x w d r) ≡ length d
-      go (Stored b) r e = length-append (toLe w b) r ∙ ap (λ (z : ℕ). z + length r) (length-toLe w b) ∙ omega arith
-      go (NanOrInf v) r e = refl
-      go (OutOfRange v lo hi) r e = refl
-      go (FloatOutOfRange v lo hi) r e = refl
-
 -- ---- the checks
 through : (a b c d : Bool) (x x′ p q r s : Answer) → (T (a && b && c && d) → SameAnswer x x′) → SameAnswer (cond a (cond b (cond c (cond d x p) q) r) s) (cond a (cond b (cond c (cond d x′ p) q) r) s)
 through true true true true x x′ p q r s h = h tt
@@ -260,13 +249,6 @@ through true true true false x x′ p q r s h = inl refl
 through true true false d x x′ p q r s h = inl refl
 through true false c d x x′ p q r s h = inl refl
 through false b c d x x′ p q r s h = inl refl
-
-second-fourth : (a b c d : Bool) → T (a && b && c && d) → T b × T d
-second-fourth true true true true h = (tt, tt)
-second-fourth true true true false h = absurd h
-second-fourth true true false d h = absurd h
-second-fourth true false c d h = absurd h
-second-fourth false b c d h = absurd h
 
 third : (x y z : Bool) → T (x && y && z) → T z
 third true true z h = h
@@ -319,19 +301,11 @@ module _ (I : Inputs) (s d ks ts : List ℕ) (hs : AlikeBytes (kindOf (I .from))
   unfolding callOf
   passed-same = ap₂ (λ (b c : Bool). codesListed I && b && c && countsMeet I) map-same bytes-same ∙ ap (λ (t : Bool). codesListed I && mapWhole J && bytesWhole J && t) counts-same
 
-  counts-meet : T (callOf I .passed) → callOf I .count ≡ length (I .destination) / dw I
-  unfolding callOf
-  counts-meet h = eqb→eq (length (I .source) / sw I) (length (I .destination) / dw I) (second-fourth (codesListed I) (mapWhole I) (bytesWhole I) (countsMeet I) h .1)
-
   written : T (callOf I .passed) → Both (kindOf (I .to)) (outcomeAt (callOf I)) (outcomeAt (callOf J)) (dw I) (kind-fits (I .to)) (callOf I .count) (bytesFrom (outcomeAt (callOf I)) (dw I) 0 (callOf I .count) (I .destination)) (bytesFrom (outcomeAt (callOf J)) (dw I) 0 (callOf I .count) d)
   unfolding callOf
   written h =
       bytes-alike (kindOf (I .to)) (outcomeAt (callOf I)) (outcomeAt (callOf J)) (dw I) (kind-fits (I .to)) (callOf I .count) 0 (I .destination) d (alikes (second-fourth (codesListed I) (mapWhole I) (bytesWhole I) (countsMeet I) h .0))
-      (record { long = hd .long; at = λ j l. hd .at j (subst (λ (z : ℕ). j < z) (counts-meet h) l) })
-
-  long-written : T (callOf I .passed) → length (bytesFrom (outcomeAt (callOf I)) (dw I) 0 (callOf I .count) (I .destination)) ≡ length (I .destination)
-  unfolding callOf
-  long-written h = length-bytes (outcomeAt (callOf I)) (dw I) (callOf I .count) 0 (I .destination) (subst (λ (z : ℕ). z * dw I ≤ length (I .destination)) (sym (counts-meet h)) (omega (arith, div-add-mod' (length (I .destination)) (dw I))))
+      (record { long = hd .long; at = λ j l. hd .at j (subst (λ (z : ℕ). j < z) (counts-meet I h) l) })
 
   destinations : AlikeBytes (kindOf (I .to)) (dw I) (destinationOf I) (destinationOf J)
   unfolding destinationOf
@@ -343,7 +317,7 @@ module _ (I : Inputs) (s d ks ts : List ℕ) (hs : AlikeBytes (kindOf (I .from))
       written′ : T (callOf I .passed) → AlikeBytes (kindOf (I .to)) (dw I) (bytesFrom (outcomeAt (callOf I)) (dw I) 0 (callOf I .count) (I .destination)) (bytesFrom (outcomeAt (callOf J)) (dw I) 0 (callOf I .count) d)
       written′ h = record {
         long = written h .long;
-        at = λ i l. written h .at i (subst (λ (z : ℕ). i < z) (ap (λ (z : ℕ). z / dw I) (long-written h) ∙ sym (counts-meet h)) l);
+        at = λ i l. written h .at i (subst (λ (z : ℕ). i < z) (ap (λ (z : ℕ). z / dw I) (long-written I h) ∙ sym (counts-meet I h)) l);
       }
 
       go : (t : Bool) {a b : List ℕ} → (T t → AlikeBytes (kindOf (I .to)) (dw I) a b) → AlikeBytes (kindOf (I .to)) (dw I) (cond t a (I .destination)) (cond t b d)

@@ -6,8 +6,8 @@ use lib.ListN.{length}
 use borrow.Author.Tests.{ne-eqb}
 use Rattle.kinds.specs.declared.Answer.the-variants as A
 use Rattle.cast_spec.specs.Chunk.{Inputs, sw, dw, codesListed, mapWhole, bytesWhole, callOf, answerOf, destinationOf}
-use Rattle.cast_spec.specs.Demand3.{Contract}
-use Rattle.cast_spec.proofs.Demand3.{contract}
+use Rattle.cast_spec.specs.Contract.{Contract}
+use Rattle.cast_spec.proofs.Contract.{contract}
 
 module _ (I : Inputs) where
   pub unknown : codesListed I ≡ false → Contract I A.UnknownCode (I .destination)

@@ -19,8 +19,8 @@ use Rattle.kinds.specs.Codes.{kindOf, rangeOf}
 use Rattle.patterns.specs.Kind.{Kind, f64, lowest, highest, InRange}
 use Rattle.cast_spec.specs.Element.{Entry, beyond, outcomeOf}
 use Rattle.patterns.specs.Pattern.{patternOf}
-use Rattle.cast_spec.specs.Chunk.{Call, settingsOf, callOf, outcomeAt, Refuses}
-use Rattle.cast_spec.specs.Demand3.{Reached, Taken, RefusedBy, Kept, Congruent, Handled, _≤ᵉ_, Demand3}
+use Rattle.cast_spec.specs.Chunk.{Call, Reached, settingsOf, callOf, outcomeAt, Refuses}
+use Rattle.cast_spec.specs.Demand3.{Taken, RefusedBy, Kept, Congruent, Handled, _≤ᵉ_, Demand3}
 use Rattle.kinds.specs.declared.Answer.{Answer}
 use Rattle.cast_spec.proofs.Samples.{mixed}
 use Rattle.cast_spec.proofs.Strength.{one-number}

@@ -1,8 +1,8 @@
 -- To be believed: the chunk call over its inputs alone: the checks, the answer, and every byte of the destination.
 use mathlib.Core.Bool.{Bool, _&&_, cond}
 use mathlib.Core.List.{List, [], _∷_, _++_}
-use Prim.Native.Nat.{ℕ, zero, suc, _/_, _%_}
-use lib.Dec.{eqb, ltb}
+use Prim.Native.Nat.{ℕ, zero, suc, _/_, _%_, _<_}
+use lib.Dec.{T, eqb, ltb}
 use lib.ListN.{length, drop}
 use Rattle.bytes_le.specs.Bytes.{toLe, patternAt}
 use Rattle.patterns.specs.Kind.{width}
@@ -92,6 +92,13 @@ Refuses (Stored b) = ⊥
 Refuses (NanOrInf v) = Unit {0}
 Refuses (OutOfRange v lo hi) = Unit {0}
 Refuses (FloatOutOfRange v lo hi) = Unit {0}
+
+-- "The call reaches an element when the input passes every check that comes before the elements, and the element steps above refuse no element
+-- before it in the order of conversion; what the program answers plays no part in this."
+pub record Reached (c : Call) (i : ℕ) : Type 0 where
+  pub passed : T (c .passed)
+  pub within : i < c .count
+  pub before : (k : ℕ) → k < i → Refuses (outcomeAt c k) → ⊥
 
 -- ---- the answer: "Numbers 1 to 4 are tested in that order; then elements by position."
 

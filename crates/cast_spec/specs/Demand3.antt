@@ -1,8 +1,8 @@
 -- To be believed: demand 3 as one claim about a call: its answer r, and res, the number at each place of the destination after it.
 use mathlib.Core.Path.{_≡_}
 use mathlib.Core.Bool.{true, false, not}
-use mathlib.Core.List.{List, List·Memᴰ}
-use Prim.Native.Nat.{ℕ, _*_, _^_, _≤_, _<_}
+use mathlib.Core.List.{List·Memᴰ}
+use Prim.Native.Nat.{ℕ, _*_, _^_, _≤_}
 use lib.Dec.{T}
 use lib.IntN.{ℤ, pos, _+ℤ_, _*ℤ_}
 use lib.Signed.{_≤ℤ_, _<ℤ_}
@@ -12,17 +12,11 @@ use Rattle.patterns.specs.Value.{Value, nan, inf, num, valueOf}
 use Rattle.kinds.specs.declared.OutOfRangeMode.{OutOfRangeMode}
 use Rattle.kinds.specs.declared.OutOfRangeMode.the-variants.{None, Clamp, Wrap}
 use Rattle.cast_spec.specs.Element.{Entry, Settings}
-use Rattle.cast_spec.specs.Chunk.{Inputs, Call, callOf, Refuses, outcomeAt, answerOf, destinationOf, resultAt}
+use Rattle.cast_spec.specs.Chunk.{Call, Reached}
 use Rattle.kinds.specs.Answer.{numberOf, positionOf}
 use Rattle.kinds.specs.declared.Answer.{Answer}
 
 -- ---- "any element that the call reaches, finite and matched by no map entry": all by the inputs alone
-
--- "the input passes every check that comes before the elements, and the element steps above refuse no element before it in the order of conversion"
-pub record Reached (c : Call) (i : ℕ) : Type 0 where
-  pub passed : T (c .passed)
-  pub within : i < c .count
-  pub before : (k : ℕ) → k < i → Refuses (outcomeAt c k) → ⊥
 
 -- the element at i has the number x: "An entry matches a finite element when key and element are equal as numbers"
 pub record Taken (c : Call) (i : ℕ) (x : ℤ) : Type 0 where
@@ -101,9 +95,3 @@ Compared c r i x = Taken c i x × Kept r i × (Wrapped (c .settings) x → ⊥)
 pub record Demand3 (c : Call) (r : Answer) (res : ℕ → Value) : Type 0 where
   pub each : (i : ℕ) (x : ℤ) → Taken c i x → Rounded (c .settings) r (res i) i x
   pub order : (i j : ℕ) (x x′ : ℤ) → Compared c r i x → Compared c r j x′ → x ≤ℤ x′ → res i ≤ᵉ res j
-
--- ---- the chunk call's contract: the inputs, the answer r and the destination d at exit
-pub record Contract (I : Inputs) (r : Answer) (d : List ℕ) : Type 0 where
-  pub answer : r ≡ answerOf I
-  pub bytes : d ≡ destinationOf I
-  pub demand3 : Demand3 (callOf I) r (resultAt I d)

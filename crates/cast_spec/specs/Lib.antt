@@ -2,5 +2,6 @@ pub mod Element
 pub mod Chunk
 pub mod Demand1
 pub mod Demand3
+pub mod Contract
 pub mod NanBits
 pub mod Fit

@@ -9,8 +9,8 @@ use lib.Dec.{ltb, eqb}
 use lib.ListN.{length, take, drop}
 use borrow.Author.Tests.{ltb-true, eq-eqb, eqb-true}
 use Rattle.cast_spec.specs.Chunk.{Inputs, sw, dw, codesListed, mapWhole, bytesWhole, callOf, answerOf, destinationOf, countsMeet, outcomeAt, settingsOf, answerFrom, bytesFrom}
-use Rattle.cast_spec.specs.Demand3.{Contract}
-use Rattle.cast_spec.proofs.Demand3.{contract}
+use Rattle.cast_spec.specs.Contract.{Contract}
+use Rattle.cast_spec.proofs.Contract.{contract}
 use Rattle.kinds.specs.Codes.{kindOf, rangeOf, roundingOf}
 use Rattle.chunk_element.specs.declared.Settings.{Settings}
 use Rattle.chunk_element.specs.Settings.{MapReady, Ready, settingsFor}

@@ -4,7 +4,7 @@ ghost use mathlib.Core.Bool.{_&&_};
 ghost use Prim.Native.Nat.{_/_, _%_, _<_};
 ghost use lib.Dec.{eqb};
 ghost use Rattle.cast_spec.specs.Chunk.{inputs};
-ghost use Rattle.cast_spec.specs.Demand3.{Contract};
+ghost use Rattle.cast_spec.specs.Contract.{Contract};
 ghost use Rattle.chunk_element.specs.Settings.{settingsFor};
 ghost use Rattle.chunk.specs.Run.{settingsBy, RunReady, Ran};
 use chunk_element::Settings;

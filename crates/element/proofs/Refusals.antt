@@ -1,5 +1,5 @@
--- The fields of a refusal: an element's f64 is its pattern's, and the ends are the row's.
-use mathlib.Core.Path.{_≡_, refl, sym, ap₂, subst}
+-- The fields of a refusal: an element's f64 is its pattern's, the ends are the row's, and number and values are the outcome's.
+use mathlib.Core.Path.{_≡_, refl, sym, ap, ap₂, subst, _∙_}
 use mathlib.Core.Logic.{⊎-elim}
 use Prim.Native.Nat.{ℕ}
 use Rattle.patterns.specs.Pattern.{asF64}
@@ -8,9 +8,15 @@ use Rattle.kinds.specs.declared.FloatFormat.{FloatFormat}
 use Rattle.kinds.specs.declared.IntegerFormat.{IntegerFormat}
 use Rattle.kinds.specs.declared.Format.{Format}
 use Rattle.kinds.specs.declared.Format.the-variants.{Integer, Float}
-use Rattle.kinds.specs.declared.Outcome.the-variants.{FloatOutOfRange, OutOfRange}
+use Rattle.kinds.specs.Answer.{numberOf, valuesOf, outcomeNumber, outcomeValues}
+use Rattle.kinds.specs.declared.Outcome.{Outcome}
+use Rattle.kinds.specs.declared.Outcome.the-variants.{Stored, NanOrInf, OutOfRange, FloatOutOfRange}
+use Rattle.kinds.specs.declared.Answer.{Answer}
+use Rattle.kinds.specs.declared.Answer.the-variants.{Converted}
+use Rattle.cast_spec.specs.Chunk.{answerNext}
 use Rattle.cast_spec.specs.Fit.{pastRange}
 use Rattle.element.specs.Element.{CanonicalElement, FormatPattern, elementF64, elementOf}
+use Rattle.element.specs.Refusal.{RefusalOf}
 use Rattle.element.proofs.FloatRows.{row-formed}
 use Rattle.element.proofs.Integers.{as-f64-is}
 
@@ -28,3 +34,13 @@ integer-ends f row v = ap₂ (OutOfRange v) (row .low) (row .high)
 
 pub float-ends : (f : FloatFormat) → FloatRow f → (v : ℕ) → FloatOutOfRange v (f .lowest) (f .highest) ≡ pastRange (floatOf f) v
 float-ends f row v = ⊎-elim (λ e. subst (λ (g : FloatFormat). FloatOutOfRange v (g .lowest) (g .highest) ≡ pastRange (floatOf g) v) (sym e) refl) (λ e. subst (λ (g : FloatFormat). FloatOutOfRange v (g .lowest) (g .highest) ≡ pastRange (floatOf g) v) (sym e) refl) row
+
+-- ---- the answer to a refusal has the number and the values of its outcome
+pub refusal-of : (i : ℕ) (o : Outcome) (r : Answer) → r ≡ answerNext o i Converted → RefusalOf i o r
+refusal-of i o r e = record { answer = e; number = ap numberOf e ∙ same o .0; values = ap valuesOf e ∙ same o .1 }
+  where
+    same : (o : Outcome) → (numberOf (answerNext o i Converted) ≡ outcomeNumber o) × (valuesOf (answerNext o i Converted) ≡ outcomeValues i o)
+    same (Stored b) = (refl, refl)
+    same (NanOrInf v) = (refl, refl)
+    same (OutOfRange v lo hi) = (refl, refl)
+    same (FloatOutOfRange v lo hi) = (refl, refl)

@@ -2,10 +2,10 @@
 ghost use mathlib.Core.Path.{_≡_};
 ghost use Rattle.patterns.specs.Pattern.{asF64};
 ghost use Rattle.kinds.specs.Row.{floatOf, kindIn, FormatRow};
-ghost use Rattle.cast_spec.specs.Chunk.{answerNext};
 ghost use Rattle.cast_spec.specs.Fit.{filled};
 ghost use Rattle.floats.specs.Form as form;
 ghost use Rattle.element.specs.Element.{FloatPattern, FormatPattern, elementOf, elementF64, CanonicalElement};
+ghost use Rattle.element.specs.Refusal.{RefusalOf};
 use floats::Float;
 use integers::Integer;
 use kinds::Answer;
@@ -82,7 +82,7 @@ pub fn outcome(b: u64, fit: Fit, source: Format, target: Format) -> Outcome
 
 // The answer that a refusal of the element at a position is; `Converted` where the element was stored.
 pub fn refusal(position: usize, o: Outcome) -> Answer
-    ensures { λ r. ⌜ r ≡ answerNext o position Answer.Converted ⌝ }
+    ensures { λ r. ⌜ RefusalOf position o r ⌝ }
 {
     match o {
         Outcome::Stored(_) => Answer::Converted,

@@ -1,9 +1,12 @@
--- To be believed: the paper's number and position of an answer. "Refused means that the answer is 6 .. or 7 .. with this element's position".
+-- To be believed: the papers' number and values for each case of an answer, and of what one element comes to.
 use Prim.Native.Nat.{ℕ}
+use Rattle.patterns.specs.Pattern.{lowBits}
+use Rattle.kinds.specs.declared.Outcome.{Outcome}
+use Rattle.kinds.specs.declared.Outcome.the-variants as O
 use Rattle.kinds.specs.declared.Answer.{Answer}
 use Rattle.kinds.specs.declared.Answer.the-variants.{Converted, UnknownCode, BrokenMap, BrokenElement, LengthMismatch, NanOrInf, OutOfRange, FloatOutOfRange}
 
--- the table "What the chunk call answers"; 0 where all is converted
+-- ---- the column "number" of the table "What the chunk call answers"; 0 where all is converted
 abbrev pub numberOf : Answer → ℕ
 numberOf Converted = 0
 numberOf UnknownCode = 1
@@ -14,13 +17,49 @@ numberOf (NanOrInf i v) = 5
 numberOf (OutOfRange i v lo hi) = 6
 numberOf (FloatOutOfRange i v lo hi) = 7
 
--- 0 where an answer names no position
+-- ---- the column "returned": what comes back beside the number, each value as 64 bits, and 0 where an answer has no such value
+pub record Values : Type 0 where
+  pub source-count : ℕ
+  pub destination-count : ℕ
+  pub position : ℕ
+  pub value : ℕ
+  pub lowest : ℕ
+  pub highest : ℕ
+
+abbrev pub noValues : Values
+noValues = record { source-count = 0; destination-count = 0; position = 0; value = 0; lowest = 0; highest = 0 }
+
+-- "both counts"
+abbrev pub bothCounts : ℕ → ℕ → Values
+bothCounts s d = record { source-count = s; destination-count = d; position = 0; value = 0; lowest = 0; highest = 0 }
+
+-- "position, value, lowest, highest"
+abbrev pub elementValues : ℕ → ℕ → ℕ → ℕ → Values
+elementValues i v lo hi = record { source-count = 0; destination-count = 0; position = i; value = v; lowest = lo; highest = hi }
+
+-- the lowest end of an integer kind is signed, and stands as its 64 bits, two's complement
+abbrev pub valuesOf : Answer → Values
+valuesOf Converted = noValues
+valuesOf UnknownCode = noValues
+valuesOf BrokenMap = noValues
+valuesOf BrokenElement = noValues
+valuesOf (LengthMismatch s d) = bothCounts s d
+valuesOf (NanOrInf i v) = elementValues i v 0 0
+valuesOf (OutOfRange i v lo hi) = elementValues i v (lowBits 64 lo) hi
+valuesOf (FloatOutOfRange i v lo hi) = elementValues i v lo hi
+
 abbrev pub positionOf : Answer → ℕ
-positionOf Converted = 0
-positionOf UnknownCode = 0
-positionOf BrokenMap = 0
-positionOf BrokenElement = 0
-positionOf (LengthMismatch s d) = 0
-positionOf (NanOrInf i v) = i
-positionOf (OutOfRange i v lo hi) = i
-positionOf (FloatOutOfRange i v lo hi) = i
+positionOf r = valuesOf r .position
+
+-- ---- of what the element at a position comes to: the refusal that it is, and 0 where it is stored
+abbrev pub outcomeNumber : Outcome → ℕ
+outcomeNumber (O.Stored b) = 0
+outcomeNumber (O.NanOrInf v) = 5
+outcomeNumber (O.OutOfRange v lo hi) = 6
+outcomeNumber (O.FloatOutOfRange v lo hi) = 7
+
+abbrev pub outcomeValues : ℕ → Outcome → Values
+outcomeValues i (O.Stored b) = noValues
+outcomeValues i (O.NanOrInf v) = elementValues i v 0 0
+outcomeValues i (O.OutOfRange v lo hi) = elementValues i v (lowBits 64 lo) hi
+outcomeValues i (O.FloatOutOfRange v lo hi) = elementValues i v lo hi

@@ -15,7 +15,7 @@ use Rattle.kinds.specs.declared.Answer.{Answer}
 use Rattle.kinds.specs.declared.KindRow.{KindRow}
 use Rattle.kinds.proofs.Listed.{row-width}
 use Rattle.cast_spec.specs.Chunk.{Inputs, inputs, answerOf, destinationOf}
-use Rattle.cast_spec.specs.Demand3.{Contract}
+use Rattle.cast_spec.specs.Contract.{Contract}
 use Rattle.cast_spec.proofs.Widths.{listed-width, width-pos}
 use Rattle.text.specs.Wrote.{Wrote}
 use Rattle.report.specs.Report.{report}

@@ -20,9 +20,10 @@ use Rattle.kinds.specs.declared.Outcome.{Outcome}
 use Rattle.kinds.specs.declared.Outcome.the-variants.{Stored, NanOrInf, OutOfRange, FloatOutOfRange}
 use Rattle.kinds.specs.Codes.{kindOf, roundingOf, rangeOf}
 use Rattle.kinds.specs.declared.Answer.the-variants as A
-use Rattle.cast_spec.specs.Demand3.{Contract}
+use Rattle.cast_spec.specs.Contract.{Contract}
 use Rattle.cast_spec.proofs.Steps.{no-map}
-use Rattle.cast_spec.proofs.Demand3.{contract, answer-is, destination-is}
+use Rattle.cast_spec.proofs.Contract.{contract}
+use Rattle.cast_spec.proofs.Checks.{answer-is, destination-is}
 use Rattle.cast_spec.proofs.Widths.{kind-fits, width-pos}
 use Rattle.cast_spec.proofs.Refusals.{unknown, mismatch}
 use Rattle.cast_spec.proofs.Runs.{Run, done, refused, kept}

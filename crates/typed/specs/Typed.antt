@@ -7,7 +7,7 @@ use Rattle.kinds.specs.Codes.{kindOf}
 use Rattle.kinds.specs.declared.Answer.{Answer}
 use Rattle.cast_spec.specs.Element as E
 use Rattle.cast_spec.specs.Chunk.{Inputs, inputs}
-use Rattle.cast_spec.specs.Demand3.{Contract}
+use Rattle.cast_spec.specs.Contract.{Contract}
 
 -- ---- the bytes of patterns of w bytes each, in their order
 abbrev pub bytesOf : ℕ → List ℕ → List ℕ

@@ -8,7 +8,7 @@ use denote.Ref.{now}
 use Rattle.kinds.specs.declared.Answer.{Answer}
 use Rattle.kinds.specs.declared.Answer.the-variants as A
 use Rattle.cast_spec.specs.Chunk.{Inputs, inputs, codesListed, mapWhole, bytesWhole, sw, dw}
-use Rattle.cast_spec.specs.Demand3.{Contract}
+use Rattle.cast_spec.specs.Contract.{Contract}
 use Rattle.chunk_element.specs.Settings.{settingsFor}
 use Rattle.chunk.specs.Run.{settingsBy, RunReady, Ran}
 use Rattle.chunk_element.specs.declared.Settings.{Settings}

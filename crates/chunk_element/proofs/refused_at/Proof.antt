@@ -24,7 +24,7 @@ outcome-requires c κs =
 returns : tie.Need-returns
 returns c =
     let a = c .before .before .before .before .args in
-    c .refusal .ensures
+    c .refusal .ensures .answer
     ∙ ap (λ (o : Outcome). answerNext o (a .position) Converted) (c .before .outcome .ensures)
     ∙ ap (λ (x : ℕ). refusedAnswer (a .s) x (a .position) (a .r)) (c .before .before .read-le .ensures .0)
 

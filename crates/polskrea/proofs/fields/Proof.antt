@@ -14,6 +14,18 @@ use Rattle.polskrea.proofs.fields.Statement.{statement}
 low-back : (c : tie.After-bits-i64) → toZ w64 (ofZ w64 (c .before .before .a3 .given .0 .1 .1 .0)) ≡ c .before .before .a3 .given .0 .1 .1 .0
 low-back c = search needs
 
+returns : tie.Need-returns
+returns c = ap fieldsOf (sym (c .enum-told .given .1))
+
+returns-2 : tie.Need-returns-2
+returns-2 c = ap fieldsOf (sym (c .enum-told2 .given .1))
+
+returns-3 : tie.Need-returns-3
+returns-3 c = ap fieldsOf (sym (c .enum-told3 .given .1))
+
+returns-4 : tie.Need-returns-4
+returns-4 c = ap fieldsOf (sym (c .enum-told4 .given .1))
+
 returns-5 : tie.Need-returns-5
 returns-5 c = ap fieldsOf (sym (c .before .a .given .1))
 
@@ -29,4 +41,4 @@ returns-8 : tie.Need-returns-8
 returns-8 c = ap fieldsOf (sym (c .before .a4 .given .1))
 
 pub fields-spec : {M : Type 1} → statement M
-fields-spec = tie.close (tie.spec (λ c. search needs) (λ c. search needs) (λ c. search needs) (λ c. search needs) (λ c. search needs) (λ c. search needs) (λ c. search needs) (λ c κs. search needs) (λ c. search needs) (λ c. search needs) (λ c. search needs) (λ c. search needs) (λ c. search needs) returns-5 returns-6 returns-7 returns-8)
+fields-spec = tie.close (tie.spec (λ c. search needs) (λ c. search needs) (λ c. search needs) (λ c. search needs) (λ c. search needs) (λ c. search needs) (λ c. search needs) (λ c κs. search needs) (λ c. search needs) returns returns-2 returns-3 returns-4 returns-5 returns-6 returns-7 returns-8)
