@@ -6,3 +6,4 @@ pub mod Integers
 pub mod Ieee
 pub mod AnyKind
 pub mod IeeeBits
+pub mod Overrun

@@ -3,8 +3,7 @@ use mathlib.Core.Bool.{Bool, true, false, cond}
 use mathlib.Core.Path.{_≡_, refl, sym, ap, subst, _∙_}
 use mathlib.Core.Logic.{_⊎_, inl, inr}
 use mathlib.Core.List.{List, map}
-use Prim.Native.Nat.{ℕ, zero, suc, _+_, _/_, _<_}
-use native.Mathlib.Nat.{zero-add}
+use Prim.Native.Nat.{ℕ, _<_}
 use native.Mathlib.Omega.{arith}
 use lib.Dec.{lit<, lit≤}
 use lib.IntN.{ℤ}
@@ -27,7 +26,10 @@ use Rattle.kinds.specs.declared.Outcome.the-variants.{Stored, NanOrInf, OutOfRa
 use Rattle.kinds.specs.declared.Answer.{Answer}
 use Rattle.kinds.specs.declared.Answer.the-variants as A
 use Rattle.cast_spec.specs.Element.{Settings, lookupOf, foundOr, inRange, beyond, converted, outcomeOf}
-use Rattle.cast_spec.specs.Chunk.{Inputs, sw, dw, codesListed, mapWhole, bytesWhole, countsMeet, callOf, outcomeAt, answerNext, answerFrom, answerOf}
+use Rattle.kinds.specs.Answer.{Values, elementValues, outcomeNumber, outcomeValues}
+use Rattle.cast_spec.specs.Chunk.{Inputs, callOf, outcomeAt}
+use Rattle.cast_spec.specs.Demand1.{Demand1}
+use Rattle.cast_spec.specs.Contract.{Contract}
 use Rattle.typed_values.specs.Bits.{floatBits, i64Bits}
 use Rattle.patterns.proofs.Integers.{no-integer-nan}
 use Rattle.typed_values.proofs.Nans.{quiet}
@@ -73,27 +75,18 @@ module _ (S : Settings) (b v : ℕ) where
   unfolding outcomeOf
   refused h = of-value (S .to) (valueOf (S .from) b) refl (unmatched (lookupOf (S .from) (valueOf (S .from) b) (S .entries)) (converted S b (S .to) (valueOf (S .from) b)) h)
 
--- ---- the answer tells an element's refusal
-told : (o : ℕ → Outcome) (n a i v : ℕ) → answerFrom o a n ≡ A.NanOrInf i v → (i < a + n) × (o i ≡ NanOrInf v)
-told o zero a i v h = let z : _≡_ {A = ℕ} 0 1 = cc in absurd (omega arith)
-told o (suc n) a i v h = go (o a) refl (told o n (suc a) i v) h
-  where
-    go : (x : Outcome) → o a ≡ x → (answerFrom o (suc a) n ≡ A.NanOrInf i v → (i < suc a + n) × (o i ≡ NanOrInf v)) → answerNext x a (answerFrom o (suc a) n) ≡ A.NanOrInf i v → (i < a + suc n) × (o i ≡ NanOrInf v)
-    go (Stored b) e rest h = let t = rest h in (omega (arith, t .0), t .1)
-    go (NanOrInf u) e rest h = let p : a ≡ i = cc in let q : u ≡ v = cc in (omega arith, ap o (sym p) ∙ e ∙ ap NanOrInf q)
-    go (OutOfRange u lo hi) e rest h = let z : _≡_ {A = ℕ} 0 1 = cc in absurd (omega arith)
-    go (FloatOutOfRange u lo hi) e rest h = let z : _≡_ {A = ℕ} 0 1 = cc in absurd (omega arith)
+-- ---- an outcome of the number 5 has the value that the answer has
+of-number-5 : (i v : ℕ) (x : Outcome) → outcomeNumber x ≡ 5 → elementValues i v 0 0 ≡ outcomeValues i x → x ≡ NanOrInf v
+of-number-5 i v (Stored b) n e = absurd (omega arith)
+of-number-5 i v (NanOrInf u) n e = ap NanOrInf (sym (ap (λ (a : Values). a .value) e))
+of-number-5 i v (OutOfRange u lo hi) n e = absurd (omega arith)
+of-number-5 i v (FloatOutOfRange u lo hi) n e = absurd (omega arith)
 
-past-checks : (I : Inputs) (i v : ℕ) → answerOf I ≡ A.NanOrInf i v → answerFrom (outcomeAt (callOf I)) 0 (callOf I .count) ≡ A.NanOrInf i v
-unfolding answerOf
-past-checks I i v = go (codesListed I) (mapWhole I) (bytesWhole I) (countsMeet I) (length (I .source) / sw I) (length (I .destination) / dw I)
-  where
-    go : (a b c d : Bool) (m n : ℕ) {x : Answer} → cond a (cond b (cond c (cond d x (A.LengthMismatch m n)) A.BrokenElement) A.BrokenMap) A.UnknownCode ≡ A.NanOrInf i v → x ≡ A.NanOrInf i v
-    go true true true true m n h = h
-    go true true true false m n h = let z : _≡_ {A = ℕ} 0 1 = cc in absurd (omega arith)
-    go true true false d m n h = let z : _≡_ {A = ℕ} 0 1 = cc in absurd (omega arith)
-    go true false c d m n h = let z : _≡_ {A = ℕ} 0 1 = cc in absurd (omega arith)
-    go false b c d m n h = let z : _≡_ {A = ℕ} 0 1 = cc in absurd (omega arith)
+told : (I : Inputs) (r : Answer) (d : List ℕ) (i v : ℕ) → Contract I r d → r ≡ A.NanOrInf i v → (i < callOf I .count) × (outcomeAt (callOf I) i ≡ NanOrInf v)
+told I r d i v c e =
+    let D = subst (λ (a : Answer). Demand1 I a d) e (c .demand1) in
+    let f = D .first-bad 5 i (lit≤ tt) .0 (refl, refl) in
+    (f .0 .within, of-number-5 i v (outcomeAt (callOf I) i) (f .1) (D .of-element (lit≤ tt)))
 
 -- ---- the quiet NaN of either format, as f64
 quiet-value : (f : Format) → nanPattern (kindFor f) 53 11 (toBits f F.nan) ≡ refusedNan
@@ -114,8 +107,8 @@ refused-nan {X} P settled xs ys rounding range qs ds r c i v e h =
     let ps = map (P .source-bits) xs in
     let S = settings (P .from) (P .to) (map (P .entry-bits) ys) rounding range in
     let I = typedInputs (P .from) (P .to) ps qs (map (P .entry-bits) ys) rounding range in
-    let t = told (outcomeAt (callOf I)) (callOf I .count) 0 i v (past-checks I i v (sym (c .answer) ∙ e)) in
-    let l : i < length ps = subst (λ (n : ℕ). i < n) (zero-add (callOf I .count) ∙ count-is P xs ys rounding range qs) (t .0) in
+    let t = told I r _ i v c e in
+    let l : i < length ps = subst (λ (n : ℕ). i < n) (count-is P xs ys rounding range qs) (t .0) in
     let x = some-element (P .source-bits) xs i l in
     go (x .0) (refused S (P .source-bits (x .0)) v (subst (λ (b : ℕ). outcomeOf S b ≡ NanOrInf v) (sym (x .1)) (sym (outcome-at P xs ys rounding range qs i l) ∙ t .1)))
   where

@@ -125,10 +125,10 @@ module _ {X Y Z : Type 0} (P : Elements X Y Z) (xs : List X) (ys : List Z) (roun
     codes-are : codesListed I ≡ ltb rounding 5 && ltb range 3
     codes-are = simp (lt-ltb from 10 (P .from-listed), lt-ltb to 10 (P .to-listed))
 
-    map-is-whole : mapWhole I ≡ true
+    pub map-is-whole : mapWhole I ≡ true
     map-is-whole = simp (eq-eqb _ _ (keys-whole .1), eq-eqb _ _ (targets-whole .1), eq-eqb _ _ (keys-whole .0 ∙ sym (targets-whole .0)))
 
-    bytes-are-whole : bytesWhole I ≡ true
+    pub bytes-are-whole : bytesWhole I ≡ true
     bytes-are-whole = simp (eq-eqb _ _ (source-whole .1), eq-eqb _ _ (target-whole .1))
 
     -- ---- the call of the definitions
