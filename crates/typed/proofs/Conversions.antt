@@ -2,7 +2,7 @@
 -- Each turn calls the lookup on the entries and the state's pattern, and the step on the two slices, the state and what was found. What source and entries own is had twice before a call;
 -- the destination is lent again for a lifetime that is made for the call, and comes back (`Again.antt`). What a turn keeps is `Inv` of `Turns.antt`.
 use mathlib.Core.Bool.{Bool, true, false}
-use mathlib.Core.Path.{_≡_, refl, sym, ap, subst}
+use mathlib.Core.Path.{_≡_, refl, sym, ap, subst, _∙_}
 use mathlib.Core.List.{List, [], _∷_, map}
 use mathlib.Core.WellFounded.{WellFounded, InvImage·wf}
 use Prim.Native.Nat.{ℕ, _<_, _^_}
@@ -70,6 +70,8 @@ pub record Pair : Type 2 where
   pub source-one : One (source .mir)
   pub target-one : One (target .mir)
   pub elements : Elements (source .Denot) (target .Denot) (entry .type .D)
+  -- a pattern of the source is the whole of its lowest bits
+  pub own : (x : ℕ) → x < 2 ^ bits (kindOf (elements .from)) → entry .pattern x ≡ x
 
 module _ (P : Pair) where
   abbrev pub N : Elements (P .source .Denot) (P .target .Denot) (P .entry .type .D)
@@ -123,7 +125,7 @@ module _ (P : Pair) where
   lookup-ended = record { signature = record { lifetimes = 1; outlives = []; params = SliceRefOf (0 ∷ []) tt (plain (λ κs. R₃)) (λ κs. tt) ∷ plain (λ κs. u64) ∷ []; result = plain (λ κs. F.the-row) }; kept = (yes, (yes, tt)) }
 
   abbrev lookup-clauses : {M : Type 1} (𝓤 : URA M) → Clauses 𝓤 lookup-ended
-  lookup-clauses 𝓤 κs a = record { ghost = Unit {0}; requires = λ g. fact 𝓤 (a .1 .0 < 2 ^ bits k); ensures = λ g r end. fact 𝓤 (r ≡ lookupOf k (valueOf k (a .1 .0)) (map (N .entry-bits) (now (a .0)))) }
+  lookup-clauses 𝓤 κs a = record { ghost = Unit {0}; requires = λ g. emp 𝓤; ensures = λ g r end. fact 𝓤 (r ≡ lookupOf k (valueOf k (P .entry .pattern (a .1 .0))) (map (N .entry-bits) (now (a .0)))) }
 
   abbrev step-ended : Ended
   step-ended = record { signature = record { lifetimes = 2; outlives = []; params = SliceRefOf (0 ∷ []) tt (plain (λ κs. R₁)) (λ κs. P .source-one) ∷ SliceRefMutOf (1 ∷ []) tt (plain (λ κs. R₂)) (λ κs. P .target-one) ∷ plain (λ κs. S.the-row) ∷ plain (λ κs. F.the-row) ∷ []; result = plain (λ κs. S.the-row) }; kept = (yes, (yes, (yes, (yes, tt)))) }
@@ -217,8 +219,8 @@ module _ (P : Pair) where
     start-said : (κ : Lft) (a : RefT (List D₁)) (m u v : ℕ) (r : State) → ent 𝓤 (ensured 𝓤 H A start-ended (start-clauses 𝓤) (κ, tt) (a, (m, (u, (v, tt)))) tt r) (fact 𝓤 (r ≡ startOf (map (N .source-bits) (now a)) m u v))
     start-said κ a m u v r = exE 𝓤 _ (λ ws. snd∗ 𝓤 (sem 𝓤 H A (lasts start-ended (κ, tt) (a, (m, (u, (v, tt)))) ws)) (fact 𝓤 (r ≡ startOf (map (N .source-bits) (now a)) m u v)))
 
-    lookup-said : (κ : Lft) (a : RefT (List D₃)) (x : ℕ) (r : Lookup) → ent 𝓤 (ensured 𝓤 H A lookup-ended (lookup-clauses 𝓤) (κ, tt) (a, (x, tt)) tt r) (fact 𝓤 (r ≡ lookupOf k (valueOf k x) (map (N .entry-bits) (now a))))
-    lookup-said κ a x r = exE 𝓤 _ (λ ws. snd∗ 𝓤 (sem 𝓤 H A (lasts lookup-ended (κ, tt) (a, (x, tt)) ws)) (fact 𝓤 (r ≡ lookupOf k (valueOf k x) (map (N .entry-bits) (now a)))))
+    lookup-said : (κ : Lft) (a : RefT (List D₃)) (x : ℕ) (r : Lookup) → ent 𝓤 (ensured 𝓤 H A lookup-ended (lookup-clauses 𝓤) (κ, tt) (a, (x, tt)) tt r) (fact 𝓤 (r ≡ lookupOf k (valueOf k (P .entry .pattern x)) (map (N .entry-bits) (now a))))
+    lookup-said κ a x r = exE 𝓤 _ (λ ws. snd∗ 𝓤 (sem 𝓤 H A (lasts lookup-ended (κ, tt) (a, (x, tt)) ws)) (fact 𝓤 (r ≡ lookupOf k (valueOf k (P .entry .pattern x)) (map (N .entry-bits) (now a)))))
 
     answer-said : (s : State) (r : Answer) → ent 𝓤 (ensured 𝓤 H A answer-ended (answer-clauses 𝓤) tt (s, tt) tt r) (fact 𝓤 (r ≡ s .answer))
     answer-said s r = exE 𝓤 _ (λ ws. snd∗ 𝓤 (sem 𝓤 H A (lasts answer-ended tt (s, tt) ws)) (fact 𝓤 (r ≡ s .answer)))
@@ -314,11 +316,11 @@ module _ (P : Pair) where
       x-fits : (s : State) → Ok s → s .x < 2 ^ 64
       x-fits s ok = LL.owed S.the-type S′.the-laws s (low s ∷ []) ok .1 .1 .0 .1
 
-      goes-lookup : (s : State) → Ok s → s .x < 2 ^ bits k → ent 𝓤 (⋆ 𝓤 H A (‵ (flft κ₂ q₂) ∷ ‵ Own₃ ∷ [])) (sep 𝓤 (LookUp 𝓤 H A .pre (to-lookup s)) (sem 𝓤 H A Own₃))
-      goes-lookup s ok asked =
+      goes-lookup : (s : State) → Ok s → ent 𝓤 (⋆ 𝓤 H A (‵ (flft κ₂ q₂) ∷ ‵ Own₃ ∷ [])) (sep 𝓤 (LookUp 𝓤 H A .pre (to-lookup s)) (sem 𝓤 H A Own₃))
+      goes-lookup s ok =
           qed W (‵ (flft κ₂ q₂) ∷ ‵ Own₃ ∷ []) ∵ move ! (1 ∷ []) $ use1 W (‵ Own₃ ⊛ ‵ Own₃) (shr-slice-copy 𝓤 H A W (named 2) κ₂ R₃ .twice a₃ (v₃ ∷ [])) $ split ! $
           nothing ! $ owned ! u64 (Is u64) (uint-makes 𝓤 H A W w64) (s .x) _ (refl, x-fits s ok) $ fjoin ! $ move ! (1 ∷ 0 ∷ []) $ fjoin ! $ nothing ! $ move ! (3 ∷ 0 ∷ []) $ join ! $
-          use2 W (raw (LookUp 𝓤 H A .pre (to-lookup s))) (qed W ((‵ (flft κ₂ q₂) ⊛ ‵ ftrue) ∷ ‵ (owns (ShrSlice (named 0) κ₂ R₃ ∷ u64 ∷ []) (a₃, (s .x, tt)) (v₃ ∷ [], (vint w64 (s .x) ∷ [], tt))) ∷ []) ∵ says ! asked $ frame ! $ done !) $ frame ! $ done !
+          use2 W (raw (LookUp 𝓤 H A .pre (to-lookup s))) (qed W ((‵ (flft κ₂ q₂) ⊛ ‵ ftrue) ∷ ‵ (owns (ShrSlice (named 0) κ₂ R₃ ∷ u64 ∷ []) (a₃, (s .x, tt)) (v₃ ∷ [], (vint w64 (s .x) ∷ [], tt))) ∷ []) ∵ join ! $ frame ! $ done !) $ frame ! $ done !
 
       -- the destination is lent for the lifetime ν, under the name δ. What was found is passed at its machine value w
       abbrev to-step : ℕ → GName → Turn → Lookup → Val → Step 𝓤 H A .Ghost
@@ -375,6 +377,9 @@ module _ (P : Pair) where
         asked : (i : Turn) → i .s .more ≡ true → Asked xs (i .zs) (i .s)
         asked i m = asks N xs ys rounding range ds (i .s) (i .zs) (i .inv) m
 
+        found : (i : Turn) → i .s .more ≡ true → (f : Lookup) → f ≡ lookupOf k (valueOf k (P .entry .pattern (i .s .x))) (map (N .entry-bits) ys) → f ≡ lookupOf k (valueOf k (i .s .x)) (map (N .entry-bits) ys)
+        found i m f e = e ∙ ap (λ (x : ℕ). lookupOf k (valueOf k x) (map (N .entry-bits) ys)) (P .own (i .s .x) (asked i m .0))
+
         -- a turn that does one element
         more : (i : Turn) → i .s .more ≡ true → Sq W (At i) (runs C Λ En turn (anyQ (Turned i)))
         unfolding afterTurn
@@ -383,10 +388,10 @@ module _ (P : Pair) where
             rewrite ! 10 (λ (t : Bool). ‵ (fat fullShare tyBool l₉ 0 (vbool t))) m refl $
             stays ! (load ! (from ! (stop !)) (look ! 10 refl)) $
             -- the call of the lookup
-            move ! (2 ∷ 5 ∷ []) $ use2 W (raw (LookUp 𝓤 H A .pre (to-lookup (i .s))) ⊛ ‵ Own₃) (goes-lookup (i .s) (i .ok) (asked i m .0)) $ split ! $
+            move ! (2 ∷ 5 ∷ []) $ use2 W (raw (LookUp 𝓤 H A .pre (to-lookup (i .s))) ⊛ ‵ Own₃) (goes-lookup (i .s) (i .ok)) $ split ! $
             calls-at ! fm (LookUp 𝓤 H A) known-lookup (to-lookup (i .s)) (and-then ! (load ! (from ! (stop !)) (look ! 22 refl)) (and-then ! (load ! (from ! (fld ! refl (stop !))) (look-in ! 16 (sub ! 2 refl (whole !)))) (no-more !))) (λ w.
             use1 W (later (some (λ (f : Lookup). ((‵ (flft κ₂ q₂) ⊛ ‵ ftrue) ⊛ ‵ (F.the-row .own f (w ∷ []))) ⊛ raw (ensured 𝓤 H A lookup-ended (lookup-clauses 𝓤) (κ₂, tt) (a₃, (i .s .x, tt)) tt f)))) (id⊢ 𝓤 _) $ await ! tt $ pick ! (λ f.
-            split ! $ move ! (1 ∷ []) $ use1 W (raw (fact 𝓤 (f ≡ lookupOf k (valueOf k (i .s .x)) (map (N .entry-bits) ys)))) (lookup-said 𝓤 H A κ₂ a₃ (i .s .x) f) $ heard ! (f ≡ lookupOf k (valueOf k (i .s .x)) (map (N .entry-bits) ys)) (λ ef. split ! $ move ! (1 ∷ []) $
+            split ! $ move ! (1 ∷ []) $ use1 W (raw (fact 𝓤 (f ≡ lookupOf k (valueOf k (P .entry .pattern (i .s .x))) (map (N .entry-bits) ys)))) (lookup-said 𝓤 H A κ₂ a₃ (i .s .x) f) $ heard ! (f ≡ lookupOf k (valueOf k (P .entry .pattern (i .s .x))) (map (N .entry-bits) ys)) (λ said. split ! $ move ! (1 ∷ []) $
             facts ! F.the-row (Is F.the-row) (shows 𝓤 H A F.the-row) f (w ∷ []) (λ isf.
             land ! (from ! (stop !)) (init ! 14 refl (EL.lawful F.the-type F′.the-laws 𝓤 H A W tt .typed f (w ∷ []) isf .0)) $
             split ! $ move ! (1 ∷ []) $ leave ! $
@@ -415,7 +420,7 @@ module _ (P : Pair) where
             rewrite ! 0 (λ (n : ℕ). ‵ (Own₂ (ws .1 .0) n)) (sym l) refl $ rewrite ! 26 (λ (n : ℕ). ‵ (fat fullShare Slice₂ l₂ 0 (v₂ n))) (sym l) refl $
             forget ! 8 refl $ forget ! 10 refl $ forget ! 12 refl $ forget ! 16 refl $
             keep ! (3 ∷ 1 ∷ 6 ∷ 5 ∷ 0 ∷ 7 ∷ 8 ∷ 9 ∷ 10 ∷ 11 ∷ 12 ∷ 13 ∷ 14 ∷ 15 ∷ 16 ∷ 17 ∷ 18 ∷ 19 ∷ 20 ∷ 21 ∷ 22 ∷ 23 ∷ 24 ∷ 25 ∷ 26 ∷ 27 ∷ 28 ∷ 29 ∷ 30 ∷ 31 ∷ []) $
-            again ! (Nearer xs ds ys rounding range) At i (goes-on xs ds ys rounding range i m f ef r (ws .1 .0) e (ok-at r u is)) (nearer xs ds ys rounding range i m f ef r (ws .1 .0) e (ok-at r u is))))))))))))))
+            again ! (Nearer xs ds ys rounding range) At i (goes-on xs ds ys rounding range i m f (found i m f said) r (ws .1 .0) e (ok-at r u is)) (nearer xs ds ys rounding range i m f (found i m f said) r (ws .1 .0) e (ok-at r u is))))))))))))))
 
         -- the turn that leaves the loop, and the rest of the body
         ends : (i : Turn) → i .s .more ≡ false → Sq W (At i) (runs C Λ En turn (anyQ (Turned i)))

@@ -3,7 +3,7 @@ use mathlib.Core.Bool.{true}
 use mathlib.Core.Path.{_≡_, refl, ap, subst, sym, _∙_}
 use mathlib.Core.List.{List, [], _∷_, map}
 use Prim.Native.Nat.{ℕ, _%_}
-use native.Mathlib.Nat.{mod-mod}
+use native.Mathlib.Nat.{mod-mod, mod-eq-of-lt}
 use lib.Ieee.{Float, binary64}
 use lib.IntN.{ℤ}
 use lib.Dec.{lit<}
@@ -61,6 +61,7 @@ f64-to-u8 = record {
     target-fits = λ e. u8-fits (e .target);
     keeps = λ es rounding range x b e. u8-kept b;
   };
+  own = λ x h. refl;
 }
 
 abbrev pub f64-to-i32 : Pair
@@ -84,6 +85,7 @@ f64-to-i32 = record {
     target-fits = λ e. i32-fits (e .target);
     keeps = λ es rounding range x b e. i32-kept b;
   };
+  own = λ x h. refl;
 }
 
 abbrev pub f32-to-u8 : Pair
@@ -107,6 +109,7 @@ f32-to-u8 = record {
     target-fits = λ e. u8-fits (e .target);
     keeps = λ es rounding range x b e. u8-kept b;
   };
+  own = λ x h. mod-eq-of-lt h;
 }
 
 abbrev pub f64-to-f32 : Pair
@@ -130,6 +133,7 @@ f64-to-f32 = record {
     target-fits = λ e. f32-fits (e .target);
     keeps = f64-to-f32-kept;
   };
+  own = λ x h. refl;
 }
 
 abbrev pub i64-to-f32 : Pair
@@ -153,4 +157,5 @@ i64-to-f32 = record {
     target-fits = λ e. f32-fits (e .target);
     keeps = i64-to-f32-kept;
   };
+  own = λ x h. refl;
 }

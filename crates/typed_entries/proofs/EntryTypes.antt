@@ -1,4 +1,5 @@
 -- The types of the five pairs' entries.
+use Prim.Native.Nat.{_%_, _^_}
 use lib.IntN.{pos}
 use lib.Ieee.{nan}
 use Rattle.kinds.specs.Codes.{kindOf}
@@ -25,6 +26,7 @@ f64-to-u8 = record {
   none = record { key = nan; target = 0 };
   of = f64U8;
   source = kindOf 9;
+  pattern = λ x. x;
 }
 
 abbrev pub f64-to-i32 : EntryType
@@ -37,6 +39,7 @@ f64-to-i32 = record {
   none = record { key = nan; target = pos 0 };
   of = f64I32;
   source = kindOf 9;
+  pattern = λ x. x;
 }
 
 abbrev pub f32-to-u8 : EntryType
@@ -49,6 +52,7 @@ f32-to-u8 = record {
   none = record { key = nan; target = 0 };
   of = f32U8;
   source = kindOf 8;
+  pattern = λ x. x % 2 ^ 32;
 }
 
 abbrev pub f64-to-f32 : EntryType
@@ -61,6 +65,7 @@ f64-to-f32 = record {
   none = record { key = nan; target = nan };
   of = f64F32;
   source = kindOf 9;
+  pattern = λ x. x;
 }
 
 abbrev pub i64-to-f32 : EntryType
@@ -73,4 +78,5 @@ i64-to-f32 = record {
   none = record { key = pos 0; target = nan };
   of = i64F32;
   source = kindOf 3;
+  pattern = λ x. x;
 }

@@ -1,7 +1,7 @@
 // The map of a typed call: entries of a key and a target, and the target of the first entry that matches.
 ghost use mathlib.Core.Path.{_≡_};
 ghost use mathlib.Core.List.{map};
-ghost use Prim.Native.Nat.{_<_, _^_};
+ghost use Prim.Native.Nat.{_%_, _^_};
 ghost use Rattle.patterns.specs.Value.{valueOf};
 ghost use Rattle.kinds.specs.Codes.{kindOf};
 ghost use Rattle.cast_spec.specs.Element.{matches, lookupOf};
@@ -48,7 +48,6 @@ pub struct EntryI64F32 {
 
 // Whether an entry's key matches the f64 of the pattern x: equal as floats, or both NaN.
 fn key_matches_f64(key: f64, x: u64) -> bool
-    requires { ⌜ x < 2 ^ 64 ⌝ }
     ensures { λ r. ⌜ r ≡ matches (valueOf (kindOf 9) x) (valueOf (kindOf 9) (f64Bits key)) ⌝ }
 {
     let double = typed_values::f64_of(x);
@@ -61,10 +60,9 @@ fn key_matches_f64(key: f64, x: u64) -> bool
     key != key
 }
 
-// Whether an entry's key matches the f32 of the pattern x, likewise.
+// Whether an entry's key matches the f32 of the lowest 32 bits of x, likewise.
 fn key_matches_f32(key: f32, x: u64) -> bool
-    requires { ⌜ x < 2 ^ 32 ⌝ }
-    ensures { λ r. ⌜ r ≡ matches (valueOf (kindOf 8) x) (valueOf (kindOf 8) (f32Bits key)) ⌝ }
+    ensures { λ r. ⌜ r ≡ matches (valueOf (kindOf 8) (x % 2 ^ 32)) (valueOf (kindOf 8) (f32Bits key)) ⌝ }
 {
     let single = typed_values::f32_of(x);
     if single == key {
@@ -78,7 +76,6 @@ fn key_matches_f32(key: f32, x: u64) -> bool
 
 // Whether an entry's key matches the i64 of the pattern x.
 fn key_matches_i64(key: i64, x: u64) -> bool
-    requires { ⌜ x < 2 ^ 64 ⌝ }
     ensures { λ r. ⌜ r ≡ matches (valueOf (kindOf 3) x) (valueOf (kindOf 3) (i64Bits key)) ⌝ }
 {
     x == typed_values::bits_i64(key)
@@ -88,7 +85,6 @@ fn key_matches_i64(key: i64, x: u64) -> bool
 
 // Whether an entry matches the f64 of the pattern x.
 fn matches_f64_u8(e: EntryF64U8, x: u64) -> bool
-    requires { ⌜ x < 2 ^ 64 ⌝ }
     ensures { λ r. ⌜ r ≡ matches (valueOf (kindOf 9) x) (valueOf (kindOf 9) (f64U8 e .key)) ⌝ }
 {
     key_matches_f64(e.key, x)
@@ -103,7 +99,6 @@ fn found_f64_u8(e: EntryF64U8) -> Lookup
 
 // The target of the first entry that matches.
 pub fn lookup_f64_u8(entries: &[EntryF64U8], x: u64) -> Lookup
-    requires { ⌜ x < 2 ^ 64 ⌝ }
     ensures { λ r. ⌜ r ≡ lookupOf (kindOf 9) (valueOf (kindOf 9) x) (map f64U8 (now (entries .entry))) ⌝ }
 {
     let mut i = 0;
@@ -121,7 +116,6 @@ pub fn lookup_f64_u8(entries: &[EntryF64U8], x: u64) -> Lookup
 
 // Whether an entry matches the f64 of the pattern x.
 fn matches_f64_i32(e: EntryF64I32, x: u64) -> bool
-    requires { ⌜ x < 2 ^ 64 ⌝ }
     ensures { λ r. ⌜ r ≡ matches (valueOf (kindOf 9) x) (valueOf (kindOf 9) (f64I32 e .key)) ⌝ }
 {
     key_matches_f64(e.key, x)
@@ -136,7 +130,6 @@ fn found_f64_i32(e: EntryF64I32) -> Lookup
 
 // The target of the first entry that matches.
 pub fn lookup_f64_i32(entries: &[EntryF64I32], x: u64) -> Lookup
-    requires { ⌜ x < 2 ^ 64 ⌝ }
     ensures { λ r. ⌜ r ≡ lookupOf (kindOf 9) (valueOf (kindOf 9) x) (map f64I32 (now (entries .entry))) ⌝ }
 {
     let mut i = 0;
@@ -154,8 +147,7 @@ pub fn lookup_f64_i32(entries: &[EntryF64I32], x: u64) -> Lookup
 
 // Whether an entry matches the f32 of the pattern x.
 fn matches_f32_u8(e: EntryF32U8, x: u64) -> bool
-    requires { ⌜ x < 2 ^ 32 ⌝ }
-    ensures { λ r. ⌜ r ≡ matches (valueOf (kindOf 8) x) (valueOf (kindOf 8) (f32U8 e .key)) ⌝ }
+    ensures { λ r. ⌜ r ≡ matches (valueOf (kindOf 8) (x % 2 ^ 32)) (valueOf (kindOf 8) (f32U8 e .key)) ⌝ }
 {
     key_matches_f32(e.key, x)
 }
@@ -169,8 +161,7 @@ fn found_f32_u8(e: EntryF32U8) -> Lookup
 
 // The target of the first entry that matches.
 pub fn lookup_f32_u8(entries: &[EntryF32U8], x: u64) -> Lookup
-    requires { ⌜ x < 2 ^ 32 ⌝ }
-    ensures { λ r. ⌜ r ≡ lookupOf (kindOf 8) (valueOf (kindOf 8) x) (map f32U8 (now (entries .entry))) ⌝ }
+    ensures { λ r. ⌜ r ≡ lookupOf (kindOf 8) (valueOf (kindOf 8) (x % 2 ^ 32)) (map f32U8 (now (entries .entry))) ⌝ }
 {
     let mut i = 0;
     while i < entries.len() {
@@ -187,7 +178,6 @@ pub fn lookup_f32_u8(entries: &[EntryF32U8], x: u64) -> Lookup
 
 // Whether an entry matches the f64 of the pattern x.
 fn matches_f64_f32(e: Entry, x: u64) -> bool
-    requires { ⌜ x < 2 ^ 64 ⌝ }
     ensures { λ r. ⌜ r ≡ matches (valueOf (kindOf 9) x) (valueOf (kindOf 9) (f64F32 e .key)) ⌝ }
 {
     key_matches_f64(e.key, x)
@@ -202,7 +192,6 @@ fn found_f64_f32(e: Entry) -> Lookup
 
 // The target of the first entry that matches.
 pub fn lookup_f64_f32(entries: &[Entry], x: u64) -> Lookup
-    requires { ⌜ x < 2 ^ 64 ⌝ }
     ensures { λ r. ⌜ r ≡ lookupOf (kindOf 9) (valueOf (kindOf 9) x) (map f64F32 (now (entries .entry))) ⌝ }
 {
     let mut i = 0;
@@ -220,7 +209,6 @@ pub fn lookup_f64_f32(entries: &[Entry], x: u64) -> Lookup
 
 // Whether an entry matches the i64 of the pattern x.
 fn matches_i64_f32(e: EntryI64F32, x: u64) -> bool
-    requires { ⌜ x < 2 ^ 64 ⌝ }
     ensures { λ r. ⌜ r ≡ matches (valueOf (kindOf 3) x) (valueOf (kindOf 3) (i64F32 e .key)) ⌝ }
 {
     key_matches_i64(e.key, x)
@@ -235,7 +223,6 @@ fn found_i64_f32(e: EntryI64F32) -> Lookup
 
 // The target of the first entry that matches.
 pub fn lookup_i64_f32(entries: &[EntryI64F32], x: u64) -> Lookup
-    requires { ⌜ x < 2 ^ 64 ⌝ }
     ensures { λ r. ⌜ r ≡ lookupOf (kindOf 3) (valueOf (kindOf 3) x) (map i64F32 (now (entries .entry))) ⌝ }
 {
     let mut i = 0;

@@ -16,7 +16,7 @@ read-back : (c : tie.After-bits-i64) → toZ w64 (ofZ w64 (c .before .args .key)
 read-back c = search needs
 
 returns : tie.Need-returns
-returns c = let t = c .before in ap (eqb (t .args .x)) (c .bits-i64 .ensures ∙ ap i64Bits (read-back c)) ∙ integers-match true 64 (t .args .x) (i64Bits (t .args .key)) (lit< tt) (t .pre) (i64-fits (t .args .key))
+returns c = let t = c .before in ap (eqb (t .args .x)) (c .bits-i64 .ensures ∙ ap i64Bits (read-back c)) ∙ integers-match true 64 (t .args .x) (i64Bits (t .args .key)) (lit< tt) (t .good .1 .0 .1) (i64-fits (t .args .key))
 
 pub key-matches-i64-spec : {M : Type 1} → statement M
 key-matches-i64-spec = tie.close (tie.spec (λ c κs. search needs) returns)
