@@ -1,7 +1,7 @@
 // The listing of a cast: what standard input asks, converted and written as text into a lent buffer.
 ghost use mathlib.Core.Path.{_≡_};
 ghost use Prim.Native.Nat.{_≤_};
-ghost use lib.ListN.{length};
+ghost use lib.ListN.{length, take};
 ghost use Rattle.text.specs.Wrote.{Wrote};
 ghost use Rattle.listing.specs.Listing.{chunkOf, reportOf, refusalOf, listingOf, Listed};
 ghost use Rattle.listing.specs.Layouts.{HeadIn, CallFits, layoutOf};
@@ -112,6 +112,9 @@ pub type Work = [u8; 65488];
 // Room for a first line of 18 bytes and 8,186 lines of 17.
 pub type Lines = [u8; 139180];
 
+// What is read of standard input: the 8,192 bytes that are taken, and one that tells that there are more.
+pub type Input = [u8; 8193];
+
 // Lists an input: the listing stands at the start of out, whose other bytes stay, and its length is returned. What then stands in work is
 // left free.
 pub fn list(input: &[u8], work: &mut Work, out: &mut Lines) -> usize
@@ -119,4 +122,23 @@ pub fn list(input: &[u8], work: &mut Work, out: &mut Lines) -> usize
     ensures { λ _. ⌜ length (now (work .exit)) ≡ 65488 ⌝ }
 {
     put_listing(input, work, out)
+}
+
+// Lists the first n bytes of what was read; all of it where n is larger.
+fn list_first(input: &[u8], n: usize, work: &mut Work, out: &mut Lines) -> usize
+    ensures { λ r. ⌜ Listed (take n (now (input .entry))) (now (out .entry)) r (now (out .exit)) ⌝ }
+    ensures { λ _. ⌜ length (now (work .exit)) ≡ 65488 ⌝ }
+{
+    if n < input.len() {
+        return list(&input[..n], work, out);
+    }
+    list(input, work, out)
+}
+
+// The same of a buffer that has room for the byte that tells longer input; its type sees to that.
+pub fn list_read(input: &Input, n: usize, work: &mut Work, out: &mut Lines) -> usize
+    ensures { λ r. ⌜ Listed (take n (now (input .entry))) (now (out .entry)) r (now (out .exit)) ⌝ }
+    ensures { λ _. ⌜ length (now (work .exit)) ≡ 65488 ⌝ }
+{
+    list_first(input, n, work, out)
 }
