@@ -2,66 +2,33 @@
 //!
 //! The library's side is proved (`crates/polskrea`); what this file has to keep is the caller's side of `include/polskrea.h`, and the
 //! borrow checker keeps it: the destination and the answer are `&mut`, so they overlap nothing, and a slice's pointer is good for its length.
+#![no_std]
 #![deny(missing_docs)]
 
-use std::fmt;
+use core::fmt;
 
-extern "C" {
-    fn polskrea_convert(
-        src: *const u8,
-        src_len: usize,
-        dst: *mut u8,
-        dst_len: usize,
-        keys: *const u8,
-        keys_len: usize,
-        targets: *const u8,
-        targets_len: usize,
-        from: u8,
-        to: u8,
-        rounding: u8,
-        range: u8,
-        answer: *mut [u64; 4],
-    ) -> u8;
-    fn polskrea_version() -> u32;
-}
+pub mod sys;
+pub use sys::Entry;
 
-/// A map entry of a typed call: the key's and the target's own types.
-#[derive(Debug, Clone, Copy, PartialEq)]
-#[repr(C)]
-pub struct Entry<K, T> {
-    /// What an element is compared with.
-    pub key: K,
-    /// What is stored for an element that equals the key.
-    pub target: T,
-}
-
-/// A typed call of the library, and its safe wrapper.
+/// The safe wrapper of a typed call.
 macro_rules! typed {
     ($name:ident, $entry:ident, $source:ty, $target:ty) => {
-        extern "C" {
-            fn $entry(
-                src: *const $source,
-                src_len: usize,
-                dst: *mut $target,
-                dst_len: usize,
-                entries: *const Entry<$source, $target>,
-                entries_len: usize,
-                rounding: u8,
-                range: u8,
-                answer: *mut [u64; 4],
-            ) -> u8;
-        }
-
         /// [`convert`] on slices of numbers. A NaN's own bits play no part: a refused one has the value `f64::NAN`, and which NaN is stored is free.
         ///
         /// # Errors
         ///
         /// The first refusal, 4 to 7. Refusal 4 leaves `dst` as it was; 5 to 7 leave it so from the refused element on.
-        pub fn $name(src: &[$source], dst: &mut [$target], entries: &[Entry<$source, $target>], rounding: RoundingMode, range: OutOfRangeMode) -> Result<(), CastError> {
-            let mut answer = [0u64; 4];
+        pub fn $name(
+            src: &[$source],
+            dst: &mut [$target],
+            entries: &[Entry<$source, $target>],
+            rounding: RoundingMode,
+            range: OutOfRangeMode,
+        ) -> Result<(), CastError> {
+            let mut answer = sys::Answer::default();
             // SAFETY: each pointer and length is a slice's, the two that are written are `&mut`, and nothing is kept.
             let number = unsafe {
-                $entry(
+                sys::$entry(
                     src.as_ptr(),
                     src.len(),
                     dst.as_mut_ptr(),
@@ -73,7 +40,7 @@ macro_rules! typed {
                     &mut answer,
                 )
             };
-            answered(number, answer)
+            answered(number, &answer)
         }
     };
 }
@@ -191,10 +158,12 @@ pub enum CastError {
         /// The target's highest finite number.
         hi: f64,
     },
+    /// A number above 7, which a later library may answer: this wrapper does not know what was done.
+    UnknownNumber(u8),
 }
 
 impl CastError {
-    /// The refusal's number, 1 to 7.
+    /// The number that the library answered.
     pub fn number(self) -> u8 {
         match self {
             CastError::UnknownCode => 1,
@@ -204,6 +173,7 @@ impl CastError {
             CastError::NanOrInf { .. } => 5,
             CastError::OutOfRange { .. } => 6,
             CastError::FloatOutOfRange { .. } => 7,
+            CastError::UnknownNumber(number) => number,
         }
     }
 }
@@ -218,18 +188,27 @@ impl fmt::Display for CastError {
             CastError::NanOrInf { position, value } => write!(f, "element {position}: {value} has no integer"),
             CastError::OutOfRange { position, value, lo, hi } => write!(f, "element {position}: {value} is outside {lo} to {hi}"),
             CastError::FloatOutOfRange { position, value, lo, hi } => write!(f, "element {position}: {value} is outside {lo} to {hi}"),
+            CastError::UnknownNumber(number) => write!(f, "the library answered {number}, which this wrapper does not know"),
         }
     }
 }
 
-impl std::error::Error for CastError {}
+impl core::error::Error for CastError {}
 
 /// Converts the elements of `src` in order into `dst`, as `include/polskrea.h` says.
 ///
 /// # Errors
 ///
 /// The first refusal, 2 to 7. Refusals 2 to 4 leave `dst` as it was; 5 to 7 leave it so from the refused element on.
-pub fn convert(src: &[u8], dst: &mut [u8], map: Map<'_>, from: Kind, to: Kind, rounding: RoundingMode, range: OutOfRangeMode) -> Result<(), CastError> {
+pub fn convert(
+    src: &[u8],
+    dst: &mut [u8],
+    map: Map<'_>,
+    from: Kind,
+    to: Kind,
+    rounding: RoundingMode,
+    range: OutOfRangeMode,
+) -> Result<(), CastError> {
     convert_codes(src, dst, map, from as u8, to as u8, rounding as u8, range as u8)
 }
 
@@ -239,10 +218,10 @@ pub fn convert(src: &[u8], dst: &mut [u8], map: Map<'_>, from: Kind, to: Kind, r
 ///
 /// As [`convert`], and 1 where a code is not listed.
 pub fn convert_codes(src: &[u8], dst: &mut [u8], map: Map<'_>, from: u8, to: u8, rounding: u8, range: u8) -> Result<(), CastError> {
-    let mut answer = [0u64; 4];
+    let mut answer = sys::Answer::default();
     // SAFETY: each pointer and length is a slice's, the two that are written are `&mut`, and nothing is kept.
     let number = unsafe {
-        polskrea_convert(
+        sys::polskrea_convert(
             src.as_ptr(),
             src.len(),
             dst.as_mut_ptr(),
@@ -258,12 +237,12 @@ pub fn convert_codes(src: &[u8], dst: &mut [u8], map: Map<'_>, from: u8, to: u8,
             &mut answer,
         )
     };
-    answered(number, answer)
+    answered(number, &answer)
 }
 
-/// The number and the four words of a call.
-fn answered(number: u8, answer: [u64; 4]) -> Result<(), CastError> {
-    let [a, b, c, d] = answer;
+/// What a call's number and words say.
+fn answered(number: u8, answer: &sys::Answer) -> Result<(), CastError> {
+    let [a, b, c, d] = *answer;
     let value = f64::from_bits(b);
     Err(match number {
         0 => return Ok(()),
@@ -272,13 +251,48 @@ fn answered(number: u8, answer: [u64; 4]) -> Result<(), CastError> {
         3 => CastError::BrokenElement,
         4 => CastError::LengthMismatch { src_len: a, dst_len: b },
         5 => CastError::NanOrInf { position: a, value },
-        6 => CastError::OutOfRange { position: a, value, lo: c as i64, hi: d },
-        _ => CastError::FloatOutOfRange { position: a, value, lo: f64::from_bits(c), hi: f64::from_bits(d) },
+        6 => CastError::OutOfRange {
+            position: a,
+            value,
+            lo: c as i64,
+            hi: d,
+        },
+        7 => CastError::FloatOutOfRange {
+            position: a,
+            value,
+            lo: f64::from_bits(c),
+            hi: f64::from_bits(d),
+        },
+        _ => CastError::UnknownNumber(number),
     })
 }
 
 /// The version of the library's calls: 1, for 0.1.
 pub fn version() -> u32 {
     // SAFETY: it takes nothing and returns a number.
-    unsafe { polskrea_version() }
+    unsafe { sys::polskrea_version() }
+}
+
+#[cfg(test)]
+mod tests {
+    use super::{answered, CastError};
+
+    #[test]
+    fn a_number_above_7_is_unknown() {
+        for number in 8..=255 {
+            let answer = answered(number, &[1, 2, 3, 4]);
+            assert_eq!(answer, Err(CastError::UnknownNumber(number)));
+            assert_eq!(answer.unwrap_err().number(), number);
+        }
+    }
+
+    #[test]
+    fn the_numbers_0_to_7_are_known() {
+        assert_eq!(answered(0, &[0; 4]), Ok(()));
+        for number in 1..=7 {
+            let error = answered(number, &[1, 2, 3, 4]).unwrap_err();
+            assert_eq!(error.number(), number);
+            assert!(!matches!(error, CastError::UnknownNumber(_)));
+        }
+    }
 }

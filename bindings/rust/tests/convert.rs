@@ -21,8 +21,24 @@ fn the_version_is_this_wrapper_s() {
 #[test]
 fn an_early_refusal_leaves_the_rest() {
     let mut dst = [0xee; 3];
-    let answer = convert(&f64s(&[2.5, 300.0, 1.0]), &mut dst, Map::default(), Kind::F64, Kind::U8, NearestEven, Refuse);
-    assert_eq!(answer, Err(CastError::OutOfRange { position: 1, value: 300.0, lo: 0, hi: 255 }));
+    let answer = convert(
+        &f64s(&[2.5, 300.0, 1.0]),
+        &mut dst,
+        Map::default(),
+        Kind::F64,
+        Kind::U8,
+        NearestEven,
+        Refuse,
+    );
+    assert_eq!(
+        answer,
+        Err(CastError::OutOfRange {
+            position: 1,
+            value: 300.0,
+            lo: 0,
+            hi: 255
+        })
+    );
     assert_eq!(dst, [2, 0xee, 0xee]);
 }
 
@@ -30,7 +46,10 @@ fn an_early_refusal_leaves_the_rest() {
 fn halves() {
     assert_eq!(cast(&f64s(&[2.5]), Kind::F64, Kind::U8, NearestEven, Refuse), Ok(vec![2]));
     assert_eq!(cast(&f64s(&[2.5]), Kind::F64, Kind::U8, NearestAway, Refuse), Ok(vec![3]));
-    assert_eq!(cast(&f64s(&[0.499_999_999_999_999_94]), Kind::F64, Kind::I32, NearestAway, Refuse), Ok(vec![0; 4]));
+    assert_eq!(
+        cast(&f64s(&[0.499_999_999_999_999_94]), Kind::F64, Kind::I32, NearestAway, Refuse),
+        Ok(vec![0; 4])
+    );
     assert_eq!(cast(&f64s(&[-0.5]), Kind::F64, Kind::U8, NearestEven, Refuse), Ok(vec![0]));
     assert_eq!(cast(&f64s(&[-0.5]), Kind::F64, Kind::U8, TowardsNegative, Clamp), Ok(vec![0]));
     assert_eq!(cast(&f64s(&[-0.5]), Kind::F64, Kind::U8, TowardsNegative, Wrap), Ok(vec![255]));
@@ -40,25 +59,59 @@ fn halves() {
 fn the_end_of_i64() {
     let x = f64s(&[9_223_372_036_854_775_808.0]);
     let lo = i64::MIN;
-    assert_eq!(cast(&x, Kind::F64, Kind::I64, NearestEven, Refuse), Err(CastError::OutOfRange { position: 0, value: 9_223_372_036_854_775_808.0, lo, hi: i64::MAX as u64 }));
-    assert_eq!(cast(&x, Kind::F64, Kind::I64, NearestEven, Clamp), Ok(i64::MAX.to_le_bytes().to_vec()));
-    assert_eq!(cast(&x, Kind::F64, Kind::I64, NearestEven, Wrap), Ok(i64::MIN.to_le_bytes().to_vec()));
+    assert_eq!(
+        cast(&x, Kind::F64, Kind::I64, NearestEven, Refuse),
+        Err(CastError::OutOfRange {
+            position: 0,
+            value: 9_223_372_036_854_775_808.0,
+            lo,
+            hi: i64::MAX as u64
+        })
+    );
+    assert_eq!(
+        cast(&x, Kind::F64, Kind::I64, NearestEven, Clamp),
+        Ok(i64::MAX.to_le_bytes().to_vec())
+    );
+    assert_eq!(
+        cast(&x, Kind::F64, Kind::I64, NearestEven, Wrap),
+        Ok(i64::MIN.to_le_bytes().to_vec())
+    );
 }
 
 #[test]
 fn integers_to_floats_round_once() {
     let x = 16_777_217_i64;
-    assert_eq!(cast(&x.to_le_bytes(), Kind::I64, Kind::F32, NearestEven, Refuse), Ok(16_777_216.0_f32.to_le_bytes().to_vec()));
-    assert_eq!(cast(&x.to_le_bytes(), Kind::I64, Kind::F32, NearestAway, Refuse), Ok(16_777_218.0_f32.to_le_bytes().to_vec()));
-    assert_eq!(cast(&(-x).to_le_bytes(), Kind::I64, Kind::F32, TowardsPositive, Refuse), Ok((-16_777_216.0_f32).to_le_bytes().to_vec()));
+    assert_eq!(
+        cast(&x.to_le_bytes(), Kind::I64, Kind::F32, NearestEven, Refuse),
+        Ok(16_777_216.0_f32.to_le_bytes().to_vec())
+    );
+    assert_eq!(
+        cast(&x.to_le_bytes(), Kind::I64, Kind::F32, NearestAway, Refuse),
+        Ok(16_777_218.0_f32.to_le_bytes().to_vec())
+    );
+    assert_eq!(
+        cast(&(-x).to_le_bytes(), Kind::I64, Kind::F32, TowardsPositive, Refuse),
+        Ok((-16_777_216.0_f32).to_le_bytes().to_vec())
+    );
 }
 
 #[test]
 fn past_the_end_of_f32() {
     let x = f64s(&[2.0_f64.powi(128)]);
     let ends = (f64::from(f32::MIN), f64::from(f32::MAX));
-    assert_eq!(cast(&x, Kind::F64, Kind::F32, TowardsZero, Refuse), Err(CastError::FloatOutOfRange { position: 0, value: 2.0_f64.powi(128), lo: ends.0, hi: ends.1 }));
-    assert_eq!(cast(&x, Kind::F64, Kind::F32, TowardsZero, Clamp), Ok(f32::INFINITY.to_le_bytes().to_vec()));
+    assert_eq!(
+        cast(&x, Kind::F64, Kind::F32, TowardsZero, Refuse),
+        Err(CastError::FloatOutOfRange {
+            position: 0,
+            value: 2.0_f64.powi(128),
+            lo: ends.0,
+            hi: ends.1
+        })
+    );
+    assert_eq!(
+        cast(&x, Kind::F64, Kind::F32, TowardsZero, Clamp),
+        Ok(f32::INFINITY.to_le_bytes().to_vec())
+    );
 }
 
 #[test]
@@ -70,9 +123,23 @@ fn a_nan_to_an_integer_kind() {
 
 #[test]
 fn the_first_entry_wins() {
-    let map = Map { keys: &f64s(&[f64::NAN, 0.0, 0.0]), targets: &[9, 7, 8] };
+    let map = Map {
+        keys: &f64s(&[f64::NAN, 0.0, 0.0]),
+        targets: &[9, 7, 8],
+    };
     let mut dst = [0; 3];
-    assert_eq!(convert(&f64s(&[-0.0, f64::NAN, 1.0]), &mut dst, map, Kind::F64, Kind::U8, NearestEven, Refuse), Ok(()));
+    assert_eq!(
+        convert(
+            &f64s(&[-0.0, f64::NAN, 1.0]),
+            &mut dst,
+            map,
+            Kind::F64,
+            Kind::U8,
+            NearestEven,
+            Refuse
+        ),
+        Ok(())
+    );
     assert_eq!(dst, [7, 9, 1]);
 }
 
@@ -82,14 +149,23 @@ fn refusals_1_to_4_in_their_order() {
     let none = Map::default();
     assert_eq!(convert_codes(&[0; 9], &mut dst, none, 10, 4, 0, 0), Err(CastError::UnknownCode));
     assert_eq!(convert_codes(&[0; 9], &mut dst, none, 9, 4, 5, 0), Err(CastError::UnknownCode));
-    let broken = Map { keys: &[0; 8], targets: &[] };
+    let broken = Map {
+        keys: &[0; 8],
+        targets: &[],
+    };
     assert_eq!(convert_codes(&[0; 9], &mut dst, broken, 9, 4, 0, 0), Err(CastError::BrokenMap));
     assert_eq!(convert_codes(&[0; 9], &mut dst, none, 9, 4, 0, 0), Err(CastError::BrokenElement));
-    assert_eq!(convert_codes(&[0; 16], &mut dst, none, 9, 4, 0, 0), Err(CastError::LengthMismatch { src_len: 2, dst_len: 3 }));
+    assert_eq!(
+        convert_codes(&[0; 16], &mut dst, none, 9, 4, 0, 0),
+        Err(CastError::LengthMismatch { src_len: 2, dst_len: 3 })
+    );
     assert_eq!(dst, [0xee; 3]);
 }
 
 #[test]
 fn two_empty_chunks() {
-    assert_eq!(convert(&[], &mut [], Map::default(), Kind::F64, Kind::F32, NearestEven, Refuse), Ok(()));
+    assert_eq!(
+        convert(&[], &mut [], Map::default(), Kind::F64, Kind::F32, NearestEven, Refuse),
+        Ok(())
+    );
 }

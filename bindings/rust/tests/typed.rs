@@ -1,7 +1,16 @@
 //! Each typed call against the byte route on the elements' bytes: answers, and every element, a NaN as a NaN.
-use polskrea::{convert, convert_f32_to_u8, convert_f64_to_f32, convert_f64_to_i32, convert_f64_to_u8, convert_i64_to_f32, CastError, Entry, Kind, Map, OutOfRangeMode, RoundingMode};
+use polskrea::{
+    convert, convert_f32_to_u8, convert_f64_to_f32, convert_f64_to_i32, convert_f64_to_u8, convert_i64_to_f32, CastError, Entry, Kind, Map,
+    OutOfRangeMode, RoundingMode,
+};
 
-const ROUNDINGS: [RoundingMode; 5] = [RoundingMode::NearestEven, RoundingMode::TowardsZero, RoundingMode::TowardsPositive, RoundingMode::TowardsNegative, RoundingMode::NearestAway];
+const ROUNDINGS: [RoundingMode; 5] = [
+    RoundingMode::NearestEven,
+    RoundingMode::TowardsZero,
+    RoundingMode::TowardsPositive,
+    RoundingMode::TowardsNegative,
+    RoundingMode::NearestAway,
+];
 const RANGES: [OutOfRangeMode; 3] = [OutOfRangeMode::None, OutOfRangeMode::Clamp, OutOfRangeMode::Wrap];
 
 /// Pseudo-random numbers (splitmix64).
@@ -77,7 +86,9 @@ fn bytes<T: Number>(xs: &[T]) -> Vec<u8> {
 /// A refusal's NaN is the quiet one; the byte route has the element's own bits.
 fn same_answer(typed: Result<(), CastError>, byte: Result<(), CastError>) -> bool {
     match (typed, byte) {
-        (Err(CastError::NanOrInf { position: p, value: v }), Err(CastError::NanOrInf { position: q, value: w })) if w.is_nan() => p == q && v.to_bits() == 0x7ff8_0000_0000_0000,
+        (Err(CastError::NanOrInf { position: p, value: v }), Err(CastError::NanOrInf { position: q, value: w })) if w.is_nan() => {
+            p == q && v.to_bits() == 0x7ff8_0000_0000_0000
+        }
         (a, b) => a == b,
     }
 }
@@ -90,7 +101,12 @@ fn agree<S: Number, T: Number>(typed: Typed<S, T>, from: Kind, to: Kind) {
         let count = (n.next() % 7) as usize;
         let src: Vec<S> = (0..count).map(|_| S::random(&mut n)).collect();
         let before: Vec<T> = (0..count + usize::from(round % 50 == 0)).map(|_| T::random(&mut n)).collect();
-        let entries: Vec<Entry<S, T>> = (0..n.next() % 4).map(|_| Entry { key: S::random(&mut n), target: T::random(&mut n) }).collect();
+        let entries: Vec<Entry<S, T>> = (0..n.next() % 4)
+            .map(|_| Entry {
+                key: S::random(&mut n),
+                target: T::random(&mut n),
+            })
+            .collect();
         let (rounding, range) = (ROUNDINGS[round % 5], RANGES[round / 5 % 3]);
 
         let mut dst = before.clone();
@@ -99,12 +115,26 @@ fn agree<S: Number, T: Number>(typed: Typed<S, T>, from: Kind, to: Kind) {
         let keys = bytes(&entries.iter().map(|e| e.key).collect::<Vec<_>>());
         let targets = bytes(&entries.iter().map(|e| e.target).collect::<Vec<_>>());
         let mut out = bytes(&before);
-        let b = convert(&bytes(&src), &mut out, Map { keys: &keys, targets: &targets }, from, to, rounding, range);
+        let b = convert(
+            &bytes(&src),
+            &mut out,
+            Map {
+                keys: &keys,
+                targets: &targets,
+            },
+            from,
+            to,
+            rounding,
+            range,
+        );
 
         assert!(same_answer(a, b), "{from:?} to {to:?}, round {round}: {a:?}, {b:?}");
         for (i, x) in dst.iter().enumerate() {
             let place = &out[i * to.bytes()..(i + 1) * to.bytes()];
-            assert!(x.bytes() == place || (x.same(*x) && nan(to, place) && nan(to, &x.bytes())), "{from:?} to {to:?}, round {round}, element {i}");
+            assert!(
+                x.bytes() == place || (x.same(*x) && nan(to, place) && nan(to, &x.bytes())),
+                "{from:?} to {to:?}, round {round}, element {i}"
+            );
         }
     }
 }
@@ -120,4 +150,25 @@ fn typed_entries_agree_with_the_byte_route() {
     agree(convert_f32_to_u8, Kind::F32, Kind::U8);
     agree(convert_f64_to_f32, Kind::F64, Kind::F32);
     agree(convert_i64_to_f32, Kind::I64, Kind::F32);
+}
+
+/// The language has one NaN, so the contract cannot see a NaN's bits: this test shows that they stay.
+#[test]
+fn an_untouched_nan_keeps_its_bits() {
+    const SIGNALLING: u32 = 0x7fa0_0001;
+    let bits = |dst: &[f32]| dst.iter().map(|x| x.to_bits()).collect::<Vec<_>>();
+    for rounding in ROUNDINGS {
+        for range in [OutOfRangeMode::None, OutOfRangeMode::Wrap] {
+            let mut dst = [f32::from_bits(SIGNALLING); 5];
+            let answer = convert_f64_to_f32(&[1.0, 1e300, f64::NAN, 2.0, 1e300], &mut dst, &[], rounding, range);
+            assert!(matches!(answer, Err(CastError::FloatOutOfRange { position: 1, .. })));
+            assert_eq!(bits(&dst), [1.0f32.to_bits(), SIGNALLING, SIGNALLING, SIGNALLING, SIGNALLING]);
+        }
+        let mut dst = [f32::from_bits(SIGNALLING); 2];
+        let answer = convert_f64_to_f32(&[1.0], &mut dst, &[], rounding, OutOfRangeMode::None);
+        assert_eq!(answer, Err(CastError::LengthMismatch { src_len: 1, dst_len: 2 }));
+        let answer = convert_i64_to_f32(&[1], &mut dst, &[], rounding, OutOfRangeMode::None);
+        assert_eq!(answer, Err(CastError::LengthMismatch { src_len: 1, dst_len: 2 }));
+        assert_eq!(bits(&dst), [SIGNALLING; 2]);
+    }
 }

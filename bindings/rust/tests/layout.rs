@@ -1,0 +1,26 @@
+//! The layout of the types that cross to C, as `include/polskrea.h` has it on x86-64.
+use polskrea::sys::{Answer, Entry};
+use std::mem::{align_of, offset_of, size_of};
+
+/// Size, alignment, and where key and target stand.
+macro_rules! layout {
+    ($key:ty, $target:ty) => {{
+        type E = Entry<$key, $target>;
+        (size_of::<E>(), align_of::<E>(), offset_of!(E, key), offset_of!(E, target))
+    }};
+}
+
+#[test]
+fn entries() {
+    assert_eq!(layout!(f64, u8), (16, 8, 0, 8));
+    assert_eq!(layout!(f64, i32), (16, 8, 0, 8));
+    assert_eq!(layout!(f32, u8), (8, 4, 0, 4));
+    assert_eq!(layout!(f64, f32), (16, 8, 0, 8));
+    assert_eq!(layout!(i64, f32), (16, 8, 0, 8));
+}
+
+#[test]
+fn answer_and_lengths() {
+    assert_eq!((size_of::<Answer>(), align_of::<Answer>()), (32, 8));
+    assert_eq!(size_of::<usize>(), 8);
+}
