@@ -1,0 +1,47 @@
+//! Converts 2.5 and 300 from f64 to u8: refused, clamped, by a map, and by the typed call.
+use polskrea::{convert, convert_f64_to_u8, CastError, Entry, Kind, Map, OutOfRangeMode, RoundingMode};
+
+/// Prints what came of a call, and the destination.
+fn show(title: &str, answer: Result<(), CastError>, dst: &[u8]) {
+    match answer {
+        Ok(()) => println!("{title}: ok; {dst:?}"),
+        Err(error) => println!("{title}: refused {}, {error}; {dst:?}", error.number()),
+    }
+}
+
+/// The byte route: elements are bytes, lowest first.
+fn by_bytes() {
+    let src: Vec<u8> = [2.5f64, 300.0].iter().flat_map(|x| x.to_le_bytes()).collect();
+    let mut dst = [0u8; 2];
+    let cast = |dst: &mut [u8], map, range| convert(&src, dst, map, Kind::F64, Kind::U8, RoundingMode::NearestEven, range);
+
+    let answer = cast(&mut dst, Map::default(), OutOfRangeMode::None);
+    show("none", answer, &dst);
+
+    let answer = cast(&mut dst, Map::default(), OutOfRangeMode::Clamp);
+    show("clamp", answer, &dst);
+
+    // one entry: 300 goes to 7
+    let map = Map {
+        keys: &300f64.to_le_bytes(),
+        targets: &[7],
+    };
+    let answer = cast(&mut dst, map, OutOfRangeMode::None);
+    show("map", answer, &dst);
+}
+
+/// The typed call, with no map and with a typed one.
+fn by_numbers() {
+    let mut dst = [0u8; 2];
+    let answer = convert_f64_to_u8(&[2.5, 300.0], &mut dst, &[], RoundingMode::NearestAway, OutOfRangeMode::None);
+    show("typed none", answer, &dst);
+
+    let entries = [Entry { key: 300.0, target: 7 }];
+    let answer = convert_f64_to_u8(&[2.5, 300.0], &mut dst, &entries, RoundingMode::NearestAway, OutOfRangeMode::None);
+    show("typed map", answer, &dst);
+}
+
+fn main() {
+    by_bytes();
+    by_numbers();
+}
