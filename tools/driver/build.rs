@@ -1,16 +1,10 @@
-//! Links the proved static libraries and, for the second opinion, ieee.c as an archive; tools/driver/build makes both.
+//! Links ieee.c as an archive, for the second opinion; tools/driver/build makes it. The crate polskrea links the proved libraries.
 use std::env;
 
 fn main() {
     println!("cargo:rerun-if-env-changed=DRIVER_LIBS");
-    for folder in env::var("DRIVER_LIBS")
-        .expect("DRIVER_LIBS names the folders of libpolskrea.a, libpolskrea_typed.a and libieee.a")
-        .split(':')
-    {
-        println!("cargo:rustc-link-search=native={folder}");
-    }
-    println!("cargo:rustc-link-lib=static=polskrea");
-    println!("cargo:rustc-link-lib=static=polskrea_typed");
+    let folder = env::var("DRIVER_LIBS").expect("DRIVER_LIBS names the folder of libieee.a");
+    println!("cargo:rustc-link-search=native={folder}");
     println!("cargo:rustc-link-lib=static=ieee");
     println!("cargo:rustc-link-lib=m");
 }

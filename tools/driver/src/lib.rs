@@ -3,29 +3,12 @@ use original::{
     convert_float_to_float, convert_float_to_int, convert_int_to_float, convert_int_to_int, CastError, CastFloat, CastInt, CastInto,
     FloatToFloatConfig, FloatToIntConfig, IntToFloatConfig, IntToIntConfig, MapEntry, OutOfRangeMode, RoundingMode,
 };
+use polskrea::{sys, Entry};
 use std::ptr;
 
 pub mod compare;
 pub mod ieee;
 pub mod samples;
-
-extern "C" {
-    fn polskrea_convert(
-        src: *const u8,
-        src_len: usize,
-        dst: *mut u8,
-        dst_len: usize,
-        keys: *const u8,
-        keys_len: usize,
-        targets: *const u8,
-        targets_len: usize,
-        from: u8,
-        to: u8,
-        rounding: u8,
-        range: u8,
-        answer: *mut [u64; 4],
-    ) -> u8;
-}
 
 pub const KINDS: [&str; 10] = ["i8", "i16", "i32", "i64", "u8", "u16", "u32", "u64", "f32", "f64"];
 pub const RULES: [&str; 5] = [
@@ -116,7 +99,10 @@ impl Answer {
     }
 }
 
-fn address(s: &[u8]) -> *const u8 {
+/// What stands in the words before a call, so that one that is not written shows.
+const UNWRITTEN: sys::Answer = [0x5555_5555_5555_5555; 4];
+
+fn address<T>(s: &[T]) -> *const T {
     if s.is_empty() {
         ptr::null()
     } else {
@@ -127,11 +113,11 @@ fn address(s: &[u8]) -> *const u8 {
 /// The proved library. An empty slice goes in as a null pointer.
 #[inline]
 pub fn ours(s: Settings, src: &[u8], dst: &mut [u8], keys: &[u8], targets: &[u8]) -> Answer {
-    let mut words = [0x5555_5555_5555_5555; 4];
+    let mut words = UNWRITTEN;
     let to = if dst.is_empty() { ptr::null_mut() } else { dst.as_mut_ptr() };
     // SAFETY: pointers and lengths are slices', and what is written is `&mut`.
     let number = unsafe {
-        polskrea_convert(
+        sys::polskrea_convert(
             address(src),
             src.len(),
             to,
@@ -172,6 +158,56 @@ macro_rules! elements {
 }
 
 elements!(i8: 0, i16: 1, i32: 2, i64: 3, u8: 4, u16: 5, u32: 6, u64: 7, f32: 8, f64: 9);
+
+/// The C type of a typed call.
+type TypedCall<S, D> = unsafe extern "C" fn(*const S, usize, *mut D, usize, *const Entry<S, D>, usize, u8, u8, *mut sys::Answer) -> u8;
+
+/// A source type that has a typed call to the target type.
+pub trait Typed<D>: Element {
+    const CALL: TypedCall<Self, D>;
+}
+
+macro_rules! typed {
+    ($source:ty, $target:ty, $call:ident) => {
+        impl Typed<$target> for $source {
+            const CALL: TypedCall<$source, $target> = sys::$call;
+        }
+    };
+}
+
+typed!(f64, u8, polskrea_convert_f64_to_u8);
+typed!(f64, i32, polskrea_convert_f64_to_i32);
+typed!(f32, u8, polskrea_convert_f32_to_u8);
+typed!(f64, f32, polskrea_convert_f64_to_f32);
+typed!(i64, f32, polskrea_convert_i64_to_f32);
+
+/// A typed call of the proved library. An empty slice goes in as a null pointer.
+#[inline]
+pub fn typed<S: Typed<D>, D>(s: Settings, src: &[S], dst: &mut [D], entries: &[Entry<S, D>]) -> Answer {
+    let mut words = UNWRITTEN;
+    let to = if dst.is_empty() { ptr::null_mut() } else { dst.as_mut_ptr() };
+    // SAFETY: pointers and lengths are slices', and what is written is `&mut`.
+    let number = unsafe {
+        S::CALL(
+            address(src),
+            src.len(),
+            to,
+            dst.len(),
+            address(entries),
+            entries.len(),
+            s.rounding,
+            s.range,
+            &mut words,
+        )
+    };
+    Answer { number, words }
+}
+
+/// The map of a typed call.
+pub fn typed_entries<S: Element, D: Element>(keys: &[u8], targets: &[u8]) -> Vec<Entry<S, D>> {
+    let pairs = entries::<S, D>(keys, targets);
+    pairs.into_iter().map(|e| Entry { key: e.src, target: e.tgt }).collect()
+}
 
 pub fn rounding_of(code: u8) -> RoundingMode {
     match code {

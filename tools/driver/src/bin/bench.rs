@@ -1,7 +1,7 @@
 //! Times the original's scalar route, its slice functions over typed slices, and ours, the byte route of the proved library and its typed
 //! entries, in one run. Prints ns per element, the best of several repeats, and the ratio.
 use driver::samples::Random;
-use driver::{entries, ours, range_of, rounding_of, width, Element, Settings, KINDS, RANGES, RULES};
+use driver::{entries, ours, range_of, rounding_of, typed, typed_entries, width, Element, Settings, Typed, KINDS, RANGES, RULES};
 use original::{
     convert_slice_float_to_float, convert_slice_float_to_int, convert_slice_int_to_float, convert_slice_int_to_int, CastFloat, CastInt,
     CastInto, FloatToFloatConfig, FloatToIntConfig, IntToFloatConfig, IntToIntConfig,
@@ -90,73 +90,25 @@ fn proved(row: &Row, repeats: usize) -> f64 {
     })
 }
 
-/// A map entry of a typed call.
-#[repr(C)]
-struct Typed<S, D> {
-    key: S,
-    target: D,
+fn typed_call<S: Typed<D>, D: Element>(row: &Row, repeats: usize) -> f64 {
+    let src: Vec<S> = row.src.chunks_exact(S::SIZE).map(S::read).collect();
+    let zero = [0u8; 8];
+    let mut dst: Vec<D> = vec![D::read(&zero[..D::SIZE]); src.len()];
+    let entries = typed_entries::<S, D>(&row.keys, &row.targets);
+    best(repeats, || {
+        let a = typed(row.s, black_box(&src), black_box(&mut dst), &entries);
+        assert_eq!(a.number, 0, "nothing is refused");
+    })
 }
-
-macro_rules! typed {
-    ($name:ident, $entry:ident, $src:ty, $dst:ty) => {
-        extern "C" {
-            fn $entry(
-                src: *const $src,
-                src_len: usize,
-                dst: *mut $dst,
-                dst_len: usize,
-                entries: *const Typed<$src, $dst>,
-                entries_len: usize,
-                rounding: u8,
-                range: u8,
-                answer: *mut [u64; 4],
-            ) -> u8;
-        }
-
-        fn $name(row: &Row, repeats: usize) -> f64 {
-            let src: Vec<$src> = row.src.chunks_exact(<$src>::SIZE).map(<$src>::read).collect();
-            let zero = [0u8; 8];
-            let mut dst: Vec<$dst> = vec![<$dst>::read(&zero[..<$dst>::SIZE]); src.len()];
-            let keys = row.keys.chunks_exact(<$src>::SIZE).map(<$src>::read);
-            let targets = row.targets.chunks_exact(<$dst>::SIZE).map(<$dst>::read);
-            let entries: Vec<Typed<$src, $dst>> = keys.zip(targets).map(|(key, target)| Typed { key, target }).collect();
-            let mut answer = [0u64; 4];
-            best(repeats, || {
-                let (src, dst) = (black_box(&src), black_box(&mut dst));
-                // SAFETY: each pointer is good for its length, and nothing overlaps.
-                let number = unsafe {
-                    $entry(
-                        src.as_ptr(),
-                        src.len(),
-                        dst.as_mut_ptr(),
-                        dst.len(),
-                        entries.as_ptr(),
-                        entries.len(),
-                        row.s.rounding,
-                        row.s.range,
-                        &mut answer,
-                    )
-                };
-                assert_eq!(number, 0, "nothing is refused");
-            })
-        }
-    };
-}
-
-typed!(f64_u8, polskrea_convert_f64_to_u8, f64, u8);
-typed!(f64_i32, polskrea_convert_f64_to_i32, f64, i32);
-typed!(f32_u8, polskrea_convert_f32_to_u8, f32, u8);
-typed!(f64_f32, polskrea_convert_f64_to_f32, f64, f32);
-typed!(i64_f32, polskrea_convert_i64_to_f32, i64, f32);
 
 /// The typed call of two kinds, where there is one.
 fn typed_entry(from: u8, to: u8) -> Option<Original> {
     match (from, to) {
-        (9, 4) => Some(f64_u8),
-        (9, 2) => Some(f64_i32),
-        (8, 4) => Some(f32_u8),
-        (9, 8) => Some(f64_f32),
-        (3, 8) => Some(i64_f32),
+        (9, 4) => Some(typed_call::<f64, u8>),
+        (9, 2) => Some(typed_call::<f64, i32>),
+        (8, 4) => Some(typed_call::<f32, u8>),
+        (9, 8) => Some(typed_call::<f64, f32>),
+        (3, 8) => Some(typed_call::<i64, f32>),
         _ => None,
     }
 }
