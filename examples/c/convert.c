@@ -37,18 +37,14 @@ static void show(const char *title, uint8_t number, const uint64_t answer[4], co
     printf("\n");
 }
 
-int main(void)
+/* 2.5 and 300 as bytes, which stand lowest first, as x86-64 has them. */
+static void by_bytes(void)
 {
     const double src[2] = {2.5, 300.0};
     uint64_t answer[4];
     uint8_t dst[2] = {0xee, 0xee};
     uint8_t number;
 
-    if (polskrea_version() != POLSKREA_VERSION) {
-        return 1;
-    }
-
-    /* the source's bytes stand lowest first, as x86-64 has them */
     number = polskrea_convert((const uint8_t *)src, sizeof src, dst, sizeof dst, NULL, 0, NULL, 0,
                               POLSKREA_F64, POLSKREA_U8, POLSKREA_NEAREST_EVEN, POLSKREA_NONE, answer);
     show("none", number, answer, dst, sizeof dst);
@@ -67,8 +63,14 @@ int main(void)
     number = polskrea_convert((const uint8_t *)src, sizeof src, dst, 1, NULL, 0, NULL, 0,
                               POLSKREA_F64, POLSKREA_U8, POLSKREA_NEAREST_EVEN, POLSKREA_NONE, answer);
     show("one place", number, answer, dst, 1);
+}
 
-    /* nothing to convert: every pointer may be null but the answer's */
+/* Nothing to convert, where every pointer may be null but the answer's, and a number past f32. */
+static void at_the_ends(void)
+{
+    uint64_t answer[4];
+    uint8_t number;
+
     number = polskrea_convert(NULL, 0, NULL, 0, NULL, 0, NULL, 0, POLSKREA_F64, POLSKREA_F32, POLSKREA_NEAREST_EVEN, POLSKREA_NONE, answer);
     show("empty", number, answer, NULL, 0);
 
@@ -77,10 +79,17 @@ int main(void)
     number = polskrea_convert((const uint8_t *)&large, sizeof large, single, sizeof single, NULL, 0, NULL, 0,
                               POLSKREA_F64, POLSKREA_F32, POLSKREA_NEAREST_EVEN, POLSKREA_NONE, answer);
     show("1e300 to f32", number, answer, single, sizeof single);
+}
 
-    /* the same elements through the typed call, with a typed map */
+/* The typed calls, with typed maps. */
+static void by_numbers(void)
+{
+    const double src[2] = {2.5, 300.0};
     const polskrea_entry_f64_u8 entries[1] = {{300.0, 7}};
-    dst[0] = dst[1] = 0xee;
+    uint64_t answer[4];
+    uint8_t dst[2] = {0xee, 0xee};
+    uint8_t number;
+
     number = polskrea_convert_f64_to_u8(src, 2, dst, 2, NULL, 0, POLSKREA_NEAREST_EVEN, POLSKREA_NONE, answer);
     show("typed none", number, answer, dst, sizeof dst);
     number = polskrea_convert_f64_to_u8(src, 2, dst, 2, entries, 1, POLSKREA_NEAREST_AWAY, POLSKREA_NONE, answer);
@@ -90,5 +99,28 @@ int main(void)
     float out[3] = {0.0f, 0.0f, 0.0f};
     number = polskrea_convert_f64_to_f32(three, 3, out, 3, wide, 2, POLSKREA_NEAREST_EVEN, POLSKREA_NONE, answer);
     show("typed f32", number, answer, (const uint8_t *)out, sizeof out);
+}
+
+/* From the refused element on a destination keeps its bits, those of a signalling NaN too. The contract has one NaN and cannot say so. */
+static void untouched_nan(void)
+{
+    const double src[4] = {1.0, 1e300, 2.0, 1e300};
+    const uint32_t signalling[4] = {0x7fa00001, 0x7fa00001, 0x7fa00001, 0x7fa00001};
+    uint64_t answer[4];
+    float dst[4];
+    memcpy(dst, signalling, sizeof dst);
+    uint8_t number = polskrea_convert_f64_to_f32(src, 4, dst, 4, NULL, 0, POLSKREA_NEAREST_EVEN, POLSKREA_NONE, answer);
+    show("typed NaN untouched", number, answer, (const uint8_t *)dst, sizeof dst);
+}
+
+int main(void)
+{
+    if (polskrea_version() != POLSKREA_VERSION) {
+        return 1;
+    }
+    by_bytes();
+    at_the_ends();
+    by_numbers();
+    untouched_nan();
     return 0;
 }
