@@ -1,6 +1,7 @@
 //! One chunk on both sides, what is counted, and the differences.
-use crate::{first_difference, is_nan, ours, pattern, reference, width, Answer, Reference, Settings};
+use crate::{first_difference, has_typed, is_nan, ours, ours_typed, pattern, put, reference, slices, width, Answer, Reference, Settings};
 use std::collections::BTreeMap;
+use std::ops::Range;
 
 /// A difference, with the element that shows it.
 #[derive(Clone, Debug, PartialEq, Eq, PartialOrd, Ord)]
@@ -12,11 +13,16 @@ pub struct Difference {
     pub text: String,
 }
 
-/// Counts, and the smallest difference of each settings.
+/// Counts, and the smallest difference of each settings. A refused element counts once, however many routes refuse it.
 #[derive(Default)]
 pub struct Tally {
-    pub calls: u64,
     pub elements: u64,
+    /// of the chunk call
+    pub calls: u64,
+    /// of the typed calls
+    pub typed: u64,
+    /// of the original's slice functions
+    pub slices: u64,
     pub refusals: u64,
     pub differences: u64,
     pub smallest: BTreeMap<Settings, Difference>,
@@ -24,13 +30,23 @@ pub struct Tally {
 
 impl Tally {
     pub fn add(&mut self, other: Tally) {
-        self.calls += other.calls;
         self.elements += other.elements;
+        self.calls += other.calls;
+        self.typed += other.typed;
+        self.slices += other.slices;
         self.refusals += other.refusals;
         self.differences += other.differences;
         for d in other.smallest.into_values() {
             self.keep(d);
         }
+    }
+
+    /// The counts in words.
+    pub fn text(&self) -> String {
+        format!(
+            "{} elements, {} calls, {} typed calls, {} slice calls, {} refusals, {} differences",
+            self.elements, self.calls, self.typed, self.slices, self.refusals, self.differences
+        )
     }
 
     fn keep(&mut self, d: Difference) {
@@ -58,113 +74,257 @@ impl Tally {
     }
 }
 
+/// A call of the library: the chunk call, or the typed call of the two kinds.
+#[derive(Clone, Copy, PartialEq, Eq)]
+enum Route {
+    Bytes,
+    Typed,
+}
+
+impl Route {
+    fn name(self) -> &'static str {
+        match self {
+            Route::Bytes => "chunk call",
+            Route::Typed => "typed call",
+        }
+    }
+}
+
+/// What a chunk's elements come to by the original, and what they are.
+struct Chunk<'a> {
+    s: Settings,
+    src: &'a [u8],
+    keys: &'a [u8],
+    targets: &'a [u8],
+    expected: &'a Reference,
+}
+
+impl Chunk<'_> {
+    fn count(&self) -> usize {
+        self.src.len() / width(self.s.from)
+    }
+
+    /// The pattern of the element at a position.
+    fn element(&self, at: usize) -> u64 {
+        let w = width(self.s.from);
+        self.src.get(at * w..at * w + w).map_or(0, pattern)
+    }
+}
+
 /// Scratch space of a worker, with its tally.
 #[derive(Default)]
 pub struct Check {
     pub tally: Tally,
     reference: Reference,
     dst: Vec<u8>,
+    /// what a destination holds before a call
+    marks: Vec<u8>,
+    /// the kind whose elements the marks are
+    marked: Option<u8>,
+    /// accepted elements, what ours made of them, and what the slice function does
+    accepted: [Vec<u8>; 3],
 }
 
-const MARK: u8 = 0xa5;
+/// The pattern that an untouched place of a kind holds: in a float kind a signalling NaN.
+fn mark(kind: u8) -> u64 {
+    match kind {
+        8 => 0x7fa0_0001,
+        9 => 0x7ff4_0000_0000_0001,
+        _ => 0xa5a5_a5a5_a5a5_a5a5,
+    }
+}
+
+/// The elements that are not refused, one after the other.
+fn gather(out: &mut Vec<u8>, bytes: &[u8], w: usize, refused: &[Answer]) {
+    out.clear();
+    let mut start = 0;
+    for r in refused {
+        let at = r.words[0] as usize;
+        out.extend_from_slice(&bytes[start * w..at * w]);
+        start = at + 1;
+    }
+    out.extend_from_slice(&bytes[start * w..]);
+}
 
 impl Check {
-    fn differs(&mut self, s: Settings, src: &[u8], at: usize, text: String) {
-        let w = width(s.from);
-        let element = src.get(at * w..at * w + w).map_or(0, pattern);
-        self.tally.differs(s, element, text);
+    /// One call of the library, counted.
+    fn run(&mut self, route: Route, s: Settings, src: &[u8], dst: &mut [u8], keys: &[u8], targets: &[u8]) -> Answer {
+        match route {
+            Route::Bytes => {
+                self.tally.calls += 1;
+                ours(s, src, dst, keys, targets)
+            }
+            Route::Typed => {
+                self.tally.typed += 1;
+                ours_typed(s, src, dst, keys, targets)
+            }
+        }
     }
 
-    /// Compares a chunk of whole elements with a whole map. After a refusal goes on behind the refused element, so that each element is
-    /// compared. `look` is how many elements from a refused one on are looked at for being untouched; the first refusal looks at all.
-    pub fn chunk(&mut self, s: Settings, src: &[u8], keys: &[u8], targets: &[u8], look: usize) {
-        let (sw, dw) = (width(s.from), width(s.to));
-        let n = src.len() / sw;
-        let mut expected = std::mem::take(&mut self.reference);
-        let mut dst = std::mem::take(&mut self.dst);
-        reference(s, src, keys, targets, &mut expected);
-        dst.clear();
-        dst.resize(n * dw, MARK);
-        let mut start = 0;
-        let mut next = 0;
-        loop {
-            let refused = expected.refused.get(next).copied();
-            let end = refused.map_or(n, |r| r.words[0] as usize);
-            let want = refused.map_or(Answer::CONVERTED, |r| Answer {
-                number: r.number,
-                words: [r.words[0] - start as u64, r.words[1], r.words[2], r.words[3]],
-            });
-            let got = ours(s, &src[start * sw..], &mut dst[start * dw..], keys, targets);
-            self.tally.calls += 1;
-            if !got.same(&want) {
-                let at = if 5 <= got.number {
-                    end.min(start + got.words[0] as usize)
-                } else {
-                    end
-                };
-                self.differs(s, src, at, format!("answer {} where the reference has {}", got.text(), want.text()));
-            }
-            if let Some(i) = first_difference(s.to, &dst[start * dw..end * dw], &expected.stored[start * dw..end * dw]) {
-                let at = start + i;
-                let show = |b: &[u8]| format!("{:#x}", pattern(&b[at * dw..at * dw + dw]));
-                self.differs(
-                    s,
-                    src,
-                    at,
-                    format!("stored {} where the reference has {}", show(&dst), show(&expected.stored)),
-                );
-            }
-            if refused.is_none() {
-                break;
-            }
-            self.tally.refusals += 1;
-            let until = if start == 0 { n } else { n.min(end + look) };
-            if let Some(i) = dst[end * dw..until * dw].iter().position(|b| *b != MARK) {
-                self.differs(
-                    s,
-                    src,
-                    end,
-                    format!(
-                        "destination changed at byte {} behind a refusal at element {}",
-                        end * dw + i,
-                        end - start
-                    ),
-                );
-                dst[end * dw..].fill(MARK);
-            }
-            start = end + 1;
-            next += 1;
+    /// Fills the destination with so many marks of a kind.
+    fn clear(&mut self, kind: u8, count: usize) {
+        let w = width(kind);
+        if self.marked != Some(kind) {
+            self.marks.clear();
+            self.marked = Some(kind);
         }
-        self.tally.elements += n as u64;
+        while self.marks.len() < count * w {
+            put(&mut self.marks, kind, mark(kind));
+        }
+        self.dst.clear();
+        self.dst.extend_from_slice(&self.marks[..count * w]);
+    }
+
+    /// Compares a chunk of whole elements with a whole map, by the chunk call, by the typed call where there is one, and by the original's slice
+    /// function. The first call is handed the whole chunk, and each later one what stands behind a refused element, to `look` elements from the
+    /// next refused one on. So each element is compared, and the whole rest of every destination after every refusal.
+    pub fn chunk(&mut self, s: Settings, src: &[u8], keys: &[u8], targets: &[u8], look: usize) {
+        let mut expected = std::mem::take(&mut self.reference);
+        reference(s, src, keys, targets, &mut expected);
+        let c = Chunk {
+            s,
+            src,
+            keys,
+            targets,
+            expected: &expected,
+        };
+        if has_typed(s.from, s.to) {
+            self.walk(&c, Route::Typed, look);
+        }
+        self.walk(&c, Route::Bytes, look);
+        self.slice(&c);
+        self.tally.elements += c.count() as u64;
+        self.tally.refusals += expected.refused.len() as u64;
         self.reference = expected;
+    }
+
+    /// The calls of one route on a chunk. Leaves what they stored in the destination.
+    fn walk(&mut self, c: &Chunk, route: Route, look: usize) {
+        let (n, sw, dw) = (c.count(), width(c.s.from), width(c.s.to));
+        self.clear(c.s.to, n);
+        let mut dst = std::mem::take(&mut self.dst);
+        let mut start = 0;
+        for next in 0..=c.expected.refused.len() {
+            let refused = c.expected.refused.get(next);
+            let end = refused.map_or(n, |r| r.words[0] as usize);
+            let until = if next == 0 || refused.is_none() { n } else { n.min(end + look) };
+            let (from, to) = (&c.src[start * sw..until * sw], &mut dst[start * dw..until * dw]);
+            let got = self.run(route, c.s, from, to, c.keys, c.targets);
+            self.answered(c, route, start, refused, got);
+            self.stored(c, route, start..end, &dst);
+            self.untouched(c, route, end..until, &mut dst);
+            start = end + 1;
+        }
         self.dst = dst;
     }
 
-    /// One call, whatever is handed in, against an answer and a destination that are known.
-    pub fn call(&mut self, s: Settings, src: &[u8], dst: &[u8], keys: &[u8], targets: &[u8], want: Answer, after: &[u8]) {
-        let mut got_dst = std::mem::take(&mut self.dst);
-        got_dst.clear();
-        got_dst.extend_from_slice(dst);
-        let got = ours(s, src, &mut got_dst, keys, targets);
-        self.tally.calls += 1;
+    /// The answer of a call on the elements from `start` on.
+    fn answered(&mut self, c: &Chunk, route: Route, start: usize, refused: Option<&Answer>, got: Answer) {
+        let want = refused.map_or(Answer::CONVERTED, |r| Answer {
+            number: r.number,
+            words: [r.words[0] - start as u64, r.words[1], r.words[2], r.words[3]],
+        });
+        if got.same(&want) {
+            return;
+        }
+        let end = refused.map_or(c.count(), |r| r.words[0] as usize);
+        let at = if 5 <= got.number {
+            end.min(start + got.words[0] as usize)
+        } else {
+            end
+        };
+        let text = format!("{}: answer {} where the original has {}", route.name(), got.text(), want.text());
+        self.tally.differs(c.s, c.element(at), text);
+    }
+
+    /// What a call stored at the places of accepted elements.
+    fn stored(&mut self, c: &Chunk, route: Route, places: Range<usize>, dst: &[u8]) {
+        let dw = width(c.s.to);
+        let bytes = places.start * dw..places.end * dw;
+        let Some(i) = first_difference(c.s.to, &dst[bytes.clone()], &c.expected.stored[bytes]) else {
+            return;
+        };
+        let at = places.start + i;
+        let show = |b: &[u8]| pattern(&b[at * dw..at * dw + dw]);
+        let (got, want) = (show(dst), show(&c.expected.stored));
+        let text = format!("{}: stored {got:#x} where the original has {want:#x}", route.name());
+        self.tally.differs(c.s, c.element(at), text);
+    }
+
+    /// The whole rest of a call's destination, from the refused element on.
+    fn untouched(&mut self, c: &Chunk, route: Route, places: Range<usize>, dst: &mut [u8]) {
+        let dw = width(c.s.to);
+        let bytes = places.start * dw..places.end * dw;
+        if dst[bytes.clone()] == self.marks[bytes.clone()] {
+            return;
+        }
+        let text = format!(
+            "{}: the destination is changed behind a refusal, {} elements before its end",
+            route.name(),
+            places.len()
+        );
+        self.tally.differs(c.s, c.element(places.start), text);
+        dst[bytes.clone()].copy_from_slice(&self.marks[bytes]);
+    }
+
+    /// The original's slice function on the accepted elements, gathered into one slice, against what the chunk call stored for them.
+    fn slice(&mut self, c: &Chunk) {
+        let [mut src, mut stored, mut dst] = std::mem::take(&mut self.accepted);
+        let refused = &c.expected.refused;
+        gather(&mut src, c.src, width(c.s.from), refused);
+        gather(&mut stored, &self.dst, width(c.s.to), refused);
+        dst.clear();
+        dst.resize(stored.len(), 0);
+        if !src.is_empty() {
+            self.tally.slices += 1;
+            let got = slices(c.s, &src, c.keys, c.targets, &mut dst);
+            let at = match first_difference(c.s.to, &stored, &dst) {
+                None if got.number == 0 => None,
+                other => Some(other.unwrap_or(0)),
+            };
+            if let Some(at) = at {
+                let w = width(c.s.from);
+                let text = format!("the original's slice function answers {}, or has another destination", got.text());
+                self.tally.differs(c.s, pattern(&src[at * w..at * w + w]), text);
+            }
+        }
+        self.accepted = [src, stored, dst];
+    }
+
+    /// One call, whatever is handed in, by the chunk call and, where it can be made, by the typed call: against `whole_call`.
+    pub fn call(&mut self, s: Settings, src: &[u8], dst: &[u8], keys: &[u8], targets: &[u8]) {
+        let (want, after) = whole_call(s, src, dst, keys, targets);
+        self.one_call(Route::Bytes, s, [src, dst, keys, targets], want, &after);
         if 0 < want.number {
             self.tally.refusals += 1;
         }
-        let shape = || {
-            format!(
-                "{} source, {} destination, {} key, {} target bytes",
-                src.len(),
-                dst.len(),
-                keys.len(),
-                targets.len()
-            )
-        };
+        if has_typed(s.from, s.to) && whole_map(s, keys.len(), targets.len()) && whole_elements(s, src.len(), dst.len()) {
+            self.one_call(Route::Typed, s, [src, dst, keys, targets], want, &after);
+        }
+        if want.number == 4 {
+            self.tally.slices += 1;
+            let got = slices(s, src, keys, targets, &mut dst.to_vec());
+            if got != want {
+                let text = format!("the original's slice function answers {} where {} is due", got.text(), want.text());
+                self.tally.differs(s, src.len() as u64, text);
+            }
+        }
+    }
+
+    fn one_call(&mut self, route: Route, s: Settings, [src, dst, keys, targets]: [&[u8]; 4], want: Answer, after: &[u8]) {
+        let mut got_dst = std::mem::take(&mut self.dst);
+        got_dst.clear();
+        got_dst.extend_from_slice(dst);
+        let got = self.run(route, s, src, &mut got_dst, keys, targets);
+        let lengths = [src.len(), dst.len(), keys.len(), targets.len()];
         if !got.same(&want) {
-            self.tally.differs(
-                s,
-                src.len() as u64,
-                format!("{}: answer {} where {} is due", shape(), got.text(), want.text()),
+            let text = format!(
+                "{}, {lengths:?} bytes: answer {} where {} is due",
+                route.name(),
+                got.text(),
+                want.text()
             );
+            self.tally.differs(s, src.len() as u64, text);
         }
         let same = if s.to < 10 && after.len() % width(s.to) == 0 {
             first_difference(s.to, &got_dst, after).is_none()
@@ -172,11 +332,11 @@ impl Check {
             got_dst == after
         };
         if !same {
-            self.tally.differs(
-                s,
-                src.len() as u64,
-                format!("{}: destination {got_dst:02x?} where {after:02x?} is due", shape()),
+            let text = format!(
+                "{}, {lengths:?} bytes: destination {got_dst:02x?} where {after:02x?} is due",
+                route.name()
             );
+            self.tally.differs(s, src.len() as u64, text);
         }
         self.dst = got_dst;
     }
@@ -191,7 +351,7 @@ impl Check {
         let want = crate::ieee::opinion(s, patterns);
         let mut dst = std::mem::take(&mut self.dst);
         dst.clear();
-        dst.resize(patterns.len() * dw, MARK);
+        dst.resize(patterns.len() * dw, 0xa5);
         let mut start = 0;
         while start < patterns.len() {
             let got = ours(s, &src[start * sw..], &mut dst[start * dw..], &[], &[]);
@@ -226,6 +386,17 @@ impl Check {
     }
 }
 
+/// Whether key and target bytes of listed kinds are whole elements, as many of the one as of the other.
+fn whole_map(s: Settings, keys: usize, targets: usize) -> bool {
+    let (sw, dw) = (width(s.from), width(s.to));
+    keys % sw == 0 && targets % dw == 0 && keys / sw == targets / dw
+}
+
+/// Whether source and destination bytes of listed kinds are whole elements.
+fn whole_elements(s: Settings, src: usize, dst: usize) -> bool {
+    src % width(s.from) == 0 && dst % width(s.to) == 0
+}
+
 /// Document 01's table for the refusals 1 to 4; `None` where the call reaches the elements.
 pub fn checks(s: Settings, src: usize, dst: usize, keys: usize, targets: usize) -> Option<Answer> {
     let plain = |number| Some(Answer { number, words: [0; 4] });
@@ -233,10 +404,10 @@ pub fn checks(s: Settings, src: usize, dst: usize, keys: usize, targets: usize) 
         return plain(1);
     }
     let (sw, dw) = (width(s.from), width(s.to));
-    if keys % sw != 0 || targets % dw != 0 || keys / sw != targets / dw {
+    if !whole_map(s, keys, targets) {
         return plain(2);
     }
-    if src % sw != 0 || dst % dw != 0 {
+    if !whole_elements(s, src, dst) {
         return plain(3);
     }
     if src / sw != dst / dw {

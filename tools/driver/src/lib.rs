@@ -1,6 +1,8 @@
-//! Both sides of the comparison: `ours`, the proved static library, and `reference`, the original's element functions applied in order.
+//! Both sides of the comparison. Ours: `ours`, the chunk call, and `ours_typed`, the typed calls. The original's: `reference`, its element
+//! functions applied in order, and `slices`, its slice functions.
 use original::{
-    convert_float_to_float, convert_float_to_int, convert_int_to_float, convert_int_to_int, CastError, CastFloat, CastInt, CastInto,
+    convert_float_to_float, convert_float_to_int, convert_int_to_float, convert_int_to_int, convert_slice_float_to_float,
+    convert_slice_float_to_int, convert_slice_int_to_float, convert_slice_int_to_int, CastError, CastFloat, CastInt, CastInto,
     FloatToFloatConfig, FloatToIntConfig, IntToFloatConfig, IntToIntConfig, MapEntry, OutOfRangeMode, RoundingMode,
 };
 use polskrea::{sys, Entry};
@@ -255,7 +257,10 @@ fn refusal(position: usize, error: CastError) -> Answer {
             number: 7,
             words: [at, value.to_bits(), lo.to_bits(), hi.to_bits()],
         },
-        CastError::LengthMismatch { .. } => unreachable!("an element function compares no lengths"),
+        CastError::LengthMismatch { src_len, dst_len } => Answer {
+            number: 4,
+            words: [src_len as u64, dst_len as u64, 0, 0],
+        },
     }
 }
 
@@ -269,9 +274,45 @@ pub fn entries<S: Element, D: Element>(keys: &[u8], targets: &[u8]) -> Vec<MapEn
         .collect()
 }
 
+/// The bytes of whole elements as a slice of them.
+fn view<T: Element>(bytes: &[u8]) -> &[T] {
+    // SAFETY: each pattern of an element type is a value.
+    let (before, elements, after) = unsafe { bytes.align_to::<T>() };
+    assert!(before.is_empty() && after.is_empty(), "whole elements at their alignment");
+    elements
+}
+
+fn view_mut<T: Element>(bytes: &mut [u8]) -> &mut [T] {
+    // SAFETY: each pattern of an element type is a value.
+    let (before, elements, after) = unsafe { bytes.align_to_mut::<T>() };
+    assert!(before.is_empty() && after.is_empty(), "whole elements at their alignment");
+    elements
+}
+
+/// Whether two kinds have a typed call.
+pub fn has_typed(from: u8, to: u8) -> bool {
+    matches!((from, to), (9, 4) | (9, 2) | (8, 4) | (9, 8) | (3, 8))
+}
+
+/// The typed call of the two kinds, on whole elements and a whole map; source and destination stand at their alignment.
+pub fn ours_typed(s: Settings, src: &[u8], dst: &mut [u8], keys: &[u8], targets: &[u8]) -> Answer {
+    fn call<S: Typed<D>, D: Element>(s: Settings, src: &[u8], dst: &mut [u8], keys: &[u8], targets: &[u8]) -> Answer {
+        typed(s, view::<S>(src), view_mut::<D>(dst), &typed_entries(keys, targets))
+    }
+    match (s.from, s.to) {
+        (9, 4) => call::<f64, u8>(s, src, dst, keys, targets),
+        (9, 2) => call::<f64, i32>(s, src, dst, keys, targets),
+        (8, 4) => call::<f32, u8>(s, src, dst, keys, targets),
+        (9, 8) => call::<f64, f32>(s, src, dst, keys, targets),
+        (3, 8) => call::<i64, f32>(s, src, dst, keys, targets),
+        _ => unreachable!("a pair with a typed call"),
+    }
+}
+
+/// A conversion of the original, by its element function and by its slice function.
 macro_rules! route {
-    ($name:ident, $config:ident, $convert:ident, $src:ident, $dst:ident $(, $field:ident)?) => {
-        fn $name<S: Element + $src + CastInto<D>, D: Element + $dst>(s: Settings, src: &[u8], keys: &[u8], targets: &[u8], out: &mut Reference) {
+    ($element:ident, $slice:ident, $config:ident, $convert:ident, $convert_slice:ident, $src:ident, $dst:ident $(, $field:ident)?) => {
+        fn $element<S: Element + $src + CastInto<D>, D: Element + $dst>(s: Settings, src: &[u8], keys: &[u8], targets: &[u8], out: &mut Reference) {
             let config = $config { map_entries: entries::<S, D>(keys, targets), $($field: rounding_of(s.rounding),)? out_of_range: range_of(s.range) };
             let places = out.stored.chunks_exact_mut(D::SIZE);
             for (i, (b, place)) in src.chunks_exact(S::SIZE).zip(places).enumerate() {
@@ -281,20 +322,53 @@ macro_rules! route {
                 }
             }
         }
+
+        fn $slice<S: Element + $src + CastInto<D>, D: Element + $dst>(s: Settings, src: &[u8], keys: &[u8], targets: &[u8], dst: &mut [u8]) -> Result<(), CastError> {
+            let config = $config { map_entries: entries::<S, D>(keys, targets), $($field: rounding_of(s.rounding),)? out_of_range: range_of(s.range) };
+            $convert_slice(view::<S>(src), view_mut::<D>(dst), &config)
+        }
     };
 }
 
-route!(float_int, FloatToIntConfig, convert_float_to_int, CastFloat, CastInt, rounding);
-route!(int_int, IntToIntConfig, convert_int_to_int, CastInt, CastInt);
+route!(
+    float_int,
+    float_int_slice,
+    FloatToIntConfig,
+    convert_float_to_int,
+    convert_slice_float_to_int,
+    CastFloat,
+    CastInt,
+    rounding
+);
+route!(
+    int_int,
+    int_int_slice,
+    IntToIntConfig,
+    convert_int_to_int,
+    convert_slice_int_to_int,
+    CastInt,
+    CastInt
+);
 route!(
     float_float,
+    float_float_slice,
     FloatToFloatConfig,
     convert_float_to_float,
+    convert_slice_float_to_float,
     CastFloat,
     CastFloat,
     rounding
 );
-route!(int_float, IntToFloatConfig, convert_int_to_float, CastInt, CastFloat, rounding);
+route!(
+    int_float,
+    int_float_slice,
+    IntToFloatConfig,
+    convert_int_to_float,
+    convert_slice_int_to_float,
+    CastInt,
+    CastFloat,
+    rounding
+);
 
 macro_rules! by_target {
     ($S:ty, $int:ident, $float:ident, $s:expr, $args:tt) => {
@@ -314,24 +388,44 @@ macro_rules! by_target {
     };
 }
 
+macro_rules! by_source {
+    ($int_int:ident, $int_float:ident, $float_int:ident, $float_float:ident, $s:expr, $args:tt) => {
+        match $s.from {
+            0 => by_target!(i8, $int_int, $int_float, $s, $args),
+            1 => by_target!(i16, $int_int, $int_float, $s, $args),
+            2 => by_target!(i32, $int_int, $int_float, $s, $args),
+            3 => by_target!(i64, $int_int, $int_float, $s, $args),
+            4 => by_target!(u8, $int_int, $int_float, $s, $args),
+            5 => by_target!(u16, $int_int, $int_float, $s, $args),
+            6 => by_target!(u32, $int_int, $int_float, $s, $args),
+            7 => by_target!(u64, $int_int, $int_float, $s, $args),
+            8 => by_target!(f32, $float_int, $float_float, $s, $args),
+            9 => by_target!(f64, $float_int, $float_float, $s, $args),
+            _ => unreachable!("a listed kind"),
+        }
+    };
+}
+
 /// Fills `out` by the original's element functions, for listed settings, whole elements and a whole map. What is refused holds 0.
 pub fn reference(s: Settings, src: &[u8], keys: &[u8], targets: &[u8], out: &mut Reference) {
     out.stored.clear();
     out.stored.resize(src.len() / width(s.from) * width(s.to), 0);
     out.refused.clear();
-    match s.from {
-        0 => by_target!(i8, int_int, int_float, s, (s, src, keys, targets, out)),
-        1 => by_target!(i16, int_int, int_float, s, (s, src, keys, targets, out)),
-        2 => by_target!(i32, int_int, int_float, s, (s, src, keys, targets, out)),
-        3 => by_target!(i64, int_int, int_float, s, (s, src, keys, targets, out)),
-        4 => by_target!(u8, int_int, int_float, s, (s, src, keys, targets, out)),
-        5 => by_target!(u16, int_int, int_float, s, (s, src, keys, targets, out)),
-        6 => by_target!(u32, int_int, int_float, s, (s, src, keys, targets, out)),
-        7 => by_target!(u64, int_int, int_float, s, (s, src, keys, targets, out)),
-        8 => by_target!(f32, float_int, float_float, s, (s, src, keys, targets, out)),
-        9 => by_target!(f64, float_int, float_float, s, (s, src, keys, targets, out)),
-        _ => unreachable!("a listed kind"),
-    }
+    by_source!(int_int, int_float, float_int, float_float, s, (s, src, keys, targets, out))
+}
+
+/// The original's slice function, for listed settings, whole elements at their alignment and a whole map. A refusal is 4 with both counts, or
+/// that of an element, at the position 0, for the original names none.
+pub fn slices(s: Settings, src: &[u8], keys: &[u8], targets: &[u8], dst: &mut [u8]) -> Answer {
+    let result = by_source!(
+        int_int_slice,
+        int_float_slice,
+        float_int_slice,
+        float_float_slice,
+        s,
+        (s, src, keys, targets, dst)
+    );
+    result.map_or_else(|e| refusal(0, e), |()| Answer::CONVERTED)
 }
 
 /// An element's bytes as a number, lowest byte first.
