@@ -364,7 +364,8 @@ fn main() {
         start: Instant::now(),
     };
     let step = args.iter().position(|a| a == "--step").map_or(if quick { 1024 } else { 1 }, |i| {
-        args[i + 1].parse().expect("a step from 1 to 4096")
+        let step = args[i + 1].parse().ok();
+        step.filter(|n| (1..=4096).contains(n)).expect("a step from 1 to 4096")
     });
     for name in SECTIONS {
         if only.as_ref().is_some_and(|o| !o.iter().any(|n| n == name)) {
