@@ -85,8 +85,8 @@ extern "C" {
  *   - `dst` and `answer` overlap nothing else that is passed. `src`, `keys` and `targets` may overlap each other.
  *   - Nothing else writes to the five while the call runs. No length is above PTRDIFF_MAX.
  *   - `answer` is aligned for uint64_t. The others need no alignment.
- *   - The floating-point environment is the default one (FE_DFL_ENV; MXCSR neither flushes nor zeroes subnormals). Under rounding downward an
- *     integer 0 becomes -0 in f64, and in f32 is refused by 7 or, clamped, an infinity. examples/c/environment.stdout has what else was seen.
+ *   - The floating-point environment is the default one (FE_DFL_ENV; MXCSR neither flushes nor zeroes subnormals). That another one changes no
+ *     answer of polskrea_convert, raises nothing and traps nowhere is tested (examples/c/environment.c) and not proved.
  * The caller owns all five before, during and after the call; the library keeps no pointer.
  */
 uint8_t polskrea_convert(const uint8_t *src, size_t src_len,
@@ -100,10 +100,12 @@ uint8_t polskrea_convert(const uint8_t *src, size_t src_len,
  * Typed calls: slices of numbers in place of bytes, and one slice of map entries. Same steps, same numbers, same four words as
  * polskrea_convert on the elements' bytes. Every length counts ELEMENTS. They cannot answer 2 or 3. They stand in libpolskrea_typed.a.
  *
- * A NaN's own bits play no part: as the value of refusal 5 every NaN is 0x7ff8000000000000, and which NaN pattern a NaN in `dst` has is free.
+ * A NaN's own bits play no part: as the value of refusal 5 every NaN is 0x7ff8000000000000, and which NaN pattern a stored NaN has is free.
+ * A place of `dst` that is left as it was is not written. Of a float that is a NaN the proof says only that it is still a NaN; that it keeps its
+ * very bits is tested (examples/c, bindings/rust).
  *
- * The caller's side is that of polskrea_convert, and each pointer is aligned for its type where its length is not 0. Where subnormals are taken
- * as zero, a key of 0 matches them. A signalling NaN among elements, keys or targets raises FE_INVALID.
+ * The caller's side is that of polskrea_convert, and each pointer is aligned for its type where its length is not 0. These calls compare
+ * floats: where subnormals are taken as zero a key of 0 matches them, and a signalling NaN raises FE_INVALID, or traps where that is enabled.
  */
 typedef struct {
     double key;

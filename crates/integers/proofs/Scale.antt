@@ -2,7 +2,7 @@
 use mathlib.Core.Path.{_≡_, sym, ap, subst, _∙_}
 use mathlib.Core.Bool.{Bool}
 use Prim.Native.Nat.{ℕ, _+_, _-_, _*_, _/_, _%_, _^_, _≤_, _<_, max}
-use native.Mathlib.Nat.{div-add-mod', mul-mod-left, mul-assoc, pos-of-ne-zero, sub-add-cancel}
+use native.Mathlib.Nat.{zero-mul, div-add-mod', mul-mod-left, mul-assoc, pos-of-ne-zero, sub-add-cancel}
 use native.Mathlib.Omega.{arith}
 use lib.Ieee.{size}
 use lib.Ieee.Digits.{size-lt, size-le}
@@ -11,7 +11,8 @@ use Rattle.grid.specs.declared.RoundingMode.{RoundingMode}
 use Rattle.grid.specs.Grid.{Grid, float}
 use Rattle.grid.specs.Round.{unitExp, step, pickMag, pick, ruleFor, signed}
 use Rattle.grid.proofs.Neighbours.{cut}
-use Rattle.grid.proofs.Kept.{pick-shift, pick-signed}
+use Rattle.grid.proofs.Kept.{pick-shift, pick-signed, pick-zero}
+use Rattle.patterns.specs.Pattern.{magBits}
 use Rattle.grid.proofs.Step.{step-no-rest}
 
 -- ---- a whole number of units is picked itself
@@ -77,3 +78,11 @@ pick-scale p s r m k h = cut p (size m)
 -- ---- with a sign
 pub pick-scale-signed : (p s : ℕ) → 2 ≤ p → (r : RoundingMode) (neg : Bool) (m k : ℕ) → s ≤ k → pick (float p s) r (signed neg (m * 2 ^ k)) ≡ signed neg (pickMag (float p 0) (ruleFor neg r) m * 2 ^ k)
 pick-scale-signed p s two r neg m k h = pick-signed (float p s) two r neg (m * 2 ^ k) ∙ ap (signed neg) (pick-scale p s (ruleFor neg r) m k h)
+
+-- ---- "Integer zero gives +0."
+no-bits : (u : ℕ) → magBits 53 0 (0 * u) ≡ 0
+unfolding size
+no-bits u = ap (magBits 53 0) (zero-mul u)
+
+pub zero-bits : (p m : ℕ) → 2 ≤ p → (r : RoundingMode) → m ≡ 0 → 0 ≡ magBits 53 0 (pickMag (float p 0) r m * 2 ^ 1074)
+zero-bits p m two r e = sym (ap (λ (n : ℕ). magBits 53 0 (n * 2 ^ 1074)) (ap (pickMag (float p 0) r) e ∙ pick-zero (float p 0) two r) ∙ no-bits (2 ^ 1074))

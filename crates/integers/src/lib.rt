@@ -76,7 +76,8 @@ pub fn round_int_to_precision(
     std::num::nearest_u64_to_f64(kept) + std::num::nearest_u64_to_f64(more)
 }
 
-// The f64 bits below the sign of the integer rounded once to `precision` significant bits.
+// The f64 bits below the sign of the integer rounded once to `precision` significant bits. Zero is told first: a machine that is set to round downwards
+// would convert it to -0.
 pub fn int_to_f64_magnitude(
     magnitude: u64,
     negative: bool,
@@ -86,6 +87,9 @@ pub fn int_to_f64_magnitude(
     requires { ⌜ Precision precision ⌝ }
     ensures { λ r. ⌜ r ≡ magBits 53 0 (pickMag (float precision 0) (ruleFor negative mode) magnitude * 2 ^ 1074) ⌝ }
 {
+    if magnitude == 0 {
+        return 0;
+    }
     f64::to_bits(round_int_to_precision(magnitude, negative, precision, mode))
 }
 
