@@ -236,7 +236,10 @@ static void compare(void (*group)(void))
 {
     static const environment by_default = {"default", FE_TONEAREST, 0, 0};
     unsigned status;
-    run(group, &by_default, &usual, &status);
+    if (run(group, &by_default, &usual, &status)) {
+        fputs("environment: a trap in the default environment\n", stderr);
+        _Exit(1);
+    }
     for (size_t e = 0; e < COUNT(environments); e++) {
         status = 0;
         int trap = run(group, &environments[e], &now, &status);

@@ -2,6 +2,7 @@
 //!
 //! The library's side is proved (`crates/polskrea`); what this file has to keep is the caller's side of `include/polskrea.h`, and the
 //! borrow checker keeps it: the destination and the answer are `&mut`, so they overlap nothing, and a slice's pointer is good for its length.
+//! The floating-point environment is left to its user: Rust's own is the default one.
 #![no_std]
 #![deny(missing_docs)]
 

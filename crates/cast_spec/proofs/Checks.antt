@@ -3,10 +3,10 @@ use mathlib.Core.Path.{_≡_, refl, sym, ap, subst, _∙_}
 use mathlib.Core.Logic.{_↔_, _⊎_, ⊎-elim}
 use mathlib.Core.Bool.{Bool, true, false, _&&_, cond, true≢false, false≢true}
 use mathlib.Core.List.{List}
-use Prim.Native.Nat.{ℕ, zero, suc, _+_, _-_, _*_, _/_, _≤_}
-use native.Mathlib.Nat.{div-mul-le-self}
+use Prim.Native.Nat.{ℕ, zero, suc, _+_, _-_, _*_, _/_, _%_, _≤_}
+use native.Mathlib.Nat.{div-add-mod', le-of-eq}
 use native.Mathlib.Omega.{arith}
-use lib.Dec.{T, eqb→eq, lit≤}
+use lib.Dec.{T, eqb, eqb→eq, lit≤}
 use lib.ListN.{length, drop, length-append, length-drop}
 use Rattle.bytes_le.specs.Bytes.{toLe}
 use Rattle.bytes_le.proofs.Sums.{length-toLe}
@@ -36,6 +36,16 @@ second-fourth true true false d h = absurd h
 second-fourth true false c d h = absurd h
 second-fourth false b c d h = absurd h
 
+third : (a b c d : Bool) → T (a && b && c && d) → T c
+third true true true d h = tt
+third true true false d h = absurd h
+third true false c d h = absurd h
+third false b c d h = absurd h
+
+second : (a b : Bool) → T (a && b) → T b
+second true b h = h
+second false b h = absurd h
+
 module _ (I : Inputs) where
   pub answer-is : T (callOf I .passed) → answerOf I ≡ answerFrom (outcomeAt (callOf I)) 0 (callOf I .count)
   unfolding answerOf callOf
@@ -48,6 +58,17 @@ module _ (I : Inputs) where
   pub counts-meet : T (callOf I .passed) → callOf I .count ≡ length (I .destination) / dw I
   unfolding callOf
   counts-meet h = eqb→eq (length (I .source) / sw I) (length (I .destination) / dw I) (second-fourth (codesListed I) (mapWhole I) (bytesWhole I) (countsMeet I) h .1)
+
+  -- the elements fill the destination
+  pub elements-fill : T (callOf I .passed) → callOf I .count * dw I ≡ length (I .destination)
+  unfolding callOf
+  elements-fill h = ap (λ (n : ℕ). n * dw I) (counts-meet h) ∙ whole (length (I .destination)) (dw I) (eqb→eq (length (I .destination) % dw I) 0 (no-rest h))
+    where
+      no-rest : T (callOf I .passed) → T (eqb (length (I .destination) % dw I) 0)
+      no-rest h = second (eqb (length (I .source) % sw I) 0) (eqb (length (I .destination) % dw I) 0) (third (codesListed I) (mapWhole I) (bytesWhole I) (countsMeet I) h)
+
+      whole : (l w : ℕ) → l % w ≡ 0 → l / w * w ≡ l
+      whole l w e = omega (arith, div-add-mod' l w)
 
 -- ---- places that are there keep the destination's length
 module _ (o : ℕ → Outcome) (w : ℕ) where
@@ -63,7 +84,7 @@ module _ (o : ℕ → Outcome) (w : ℕ) where
 
 module _ (I : Inputs) where
   pub long-written : T (callOf I .passed) → length (bytesFrom (outcomeAt (callOf I)) (dw I) 0 (callOf I .count) (I .destination)) ≡ length (I .destination)
-  long-written h = length-bytes (outcomeAt (callOf I)) (dw I) (callOf I .count) 0 (I .destination) (subst (λ (z : ℕ). z * dw I ≤ length (I .destination)) (sym (counts-meet I h)) (div-mul-le-self (length (I .destination)) (dw I)))
+  long-written h = length-bytes (outcomeAt (callOf I)) (dw I) (callOf I .count) 0 (I .destination) (le-of-eq (elements-fill I h))
 
 -- ---- the cause of each number, where the checks give a, b, c and d, the elements' answer is x, and s and t are the counts
 abbrev pub checked : Bool → Bool → Bool → Bool → Answer → ℕ → ℕ → Answer

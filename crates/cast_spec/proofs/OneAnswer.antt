@@ -1,12 +1,20 @@
--- What demand 1 settles: whatever the inputs are, any two answers that meet it have one number and one set of values.
-use mathlib.Core.Path.{_≡_, refl, sym, ap, ap₂, subst, _∙_}
+-- What demand 1 settles: whatever the inputs are, any two answers that meet it have one number and one set of values, and any two destinations of bytes are one.
+use mathlib.Core.Path.{_≡_, refl, sym, ap, subst, _∙_}
+use mathlib.Core.Bool.{Bool, true, false, _&&_}
 use mathlib.Core.List.{List}
-use Prim.Native.Nat.{ℕ, zero, suc, _≤_, _<_}
+use Prim.Native.Nat.{ℕ, zero, suc, _*_, _%_, _^_, _≤_, _<_}
+use native.Mathlib.Nat.{le-of-eq, le-of-lt, le-trans, mul-le-mul-right}
 use native.Mathlib.Omega.{arith}
+use lib.Dec.{T}
+use lib.ListN.{length, drop}
+use lib.Seq.{drop-length}
+use Rattle.bytes_le.specs.Bytes.{patternAt}
+use Rattle.bytes_le.proofs.Unique.{AreBytes, one-chunk}
 use Rattle.kinds.specs.Answer.{numberOf, valuesOf, positionOf, outcomeValues}
 use Rattle.kinds.specs.declared.Answer.{Answer}
-use Rattle.cast_spec.specs.Chunk.{Inputs, callOf, outcomeAt}
-use Rattle.cast_spec.specs.Demand1.{Demand1}
+use Rattle.cast_spec.specs.Chunk.{Inputs, callOf, outcomeAt, dw, codesListed, mapWhole, bytesWhole, countsMeet}
+use Rattle.cast_spec.specs.Demand1.{ConvertedTo, Demand1}
+use Rattle.cast_spec.proofs.Checks.{elements-fill}
 use Rattle.grid.proofs.Neighbours.{cut}
 
 module _ (I : Inputs) where
@@ -31,3 +39,51 @@ module _ (I : Inputs) where
     one-set-of-values = cut (numberOf r) 4 (λ h. D .plain (omega arith) ∙ sym (D′ .plain (omega (arith, one-number))))
         (λ h. cut (numberOf r) 5 (λ l. D .counts (omega arith) ∙ sym (D′ .counts (omega (arith, one-number))))
         (λ l. D .of-element l ∙ ap (λ (i : ℕ). outcomeValues i (outcomeAt (callOf I) i)) (one-position l) ∙ sym (D′ .of-element (subst (λ (n : ℕ). 5 ≤ n) one-number l))))
+
+-- ---- the destination
+-- checks none of which is the first that fails
+all-pass : (a b c d : Bool) → (a ≡ false → ⊥) → ((a ≡ true) × (b ≡ false) → ⊥) → ((a ≡ true) × (b ≡ true) × (c ≡ false) → ⊥) → ((a ≡ true) × (b ≡ true) × (c ≡ true) × (d ≡ false) → ⊥) → T (a && b && c && d)
+all-pass false b c d one two three four = absurd (one refl)
+all-pass true false c d one two three four = absurd (two (refl, refl))
+all-pass true true false d one two three four = absurd (three (refl, refl, refl))
+all-pass true true true false one two three four = absurd (four (refl, refl, refl, refl))
+all-pass true true true true one two three four = tt
+
+module _ (I : Inputs) (r r′ : Answer) (d d′ : List ℕ) (D : Demand1 I r d) (D′ : Demand1 I r′ d′) where
+  -- an element that is converted in both has one pattern
+  one-pattern : (i : ℕ) → ConvertedTo I d i → ConvertedTo I d′ i → patternAt (dw I) d i ≡ patternAt (dw I) d′ i
+  one-pattern i c c′ = let e : c .pattern ≡ c′ .pattern = cc in c .stored ∙ ap (λ (b : ℕ). b % 256 ^ dw I) e ∙ sym (c′ .stored)
+
+  passed-with-0 : numberOf r ≡ 0 → T (callOf I .passed)
+  unfolding callOf
+  passed-with-0 z = all-pass (codesListed I) (mapWhole I) (bytesWhole I) (countsMeet I)
+      (λ e. omega (arith, D .unknown-code .1 e)) (λ e. omega (arith, D .broken-map .1 e)) (λ e. omega (arith, D .broken-element .1 e)) (λ e. omega (arith, D .length-mismatch .1 e))
+
+  -- the first k elements are converted in both, and the rest is one
+  joined : (k : ℕ) → AreBytes d → AreBytes d′ → k * dw I ≤ length (I .destination) → ((i : ℕ) → i < k → ConvertedTo I d i × ConvertedTo I d′ i) → drop (k * dw I) d ≡ drop (k * dw I) d′ → d ≡ d′
+  joined k b b′ fits both rest = one-chunk (dw I) k d d′ b b′ (D .long ∙ sym (D′ .long)) (subst (λ (n : ℕ). k * dw I ≤ n) (sym (D .long)) fits) (λ i l. one-pattern i (both i l .0) (both i l .1)) rest
+
+  pub one-destination : AreBytes d → AreBytes d′ → d ≡ d′
+  one-destination b b′ = cut 0 (numberOf r)
+      (λ h. cut (numberOf r) 5 (λ l. D .untouched h (omega arith) ∙ sym (D′ .untouched (subst (λ (n : ℕ). 1 ≤ n) same h) (omega (arith, same)))) (λ l. of-refusal l))
+      (λ h. of-all (omega arith))
+    where
+      same : numberOf r ≡ numberOf r′
+      same = one-number I r r′ d d′ D D′
+
+      of-refusal : 5 ≤ numberOf r → d ≡ d′
+      of-refusal l =
+          let p = positionOf r in
+          let l′ : 5 ≤ numberOf r′ = subst (λ (n : ℕ). 5 ≤ n) same l in
+          let at : p ≡ positionOf r′ = one-position I r r′ d d′ D D′ l in
+          let R = D .first-bad (numberOf r) p l .0 (refl, refl) .0 in
+          joined p b b′ (le-trans (mul-le-mul-right (dw I) (le-of-lt (R .within))) (le-of-eq (elements-fill I (R .passed))))
+          (λ i h. (D .before l i h, D′ .before l′ i (subst (λ (n : ℕ). i < n) at h)))
+          (D .after l ∙ sym (ap (λ (n : ℕ). drop (n * dw I) d′) at ∙ D′ .after l′ ∙ ap (λ (n : ℕ). drop (n * dw I) (I .destination)) (sym at)))
+
+      of-all : numberOf r ≡ 0 → d ≡ d′
+      of-all z =
+          let t = passed-with-0 z in
+          let z′ : numberOf r′ ≡ 0 = sym same ∙ z in
+          joined (callOf I .count) b b′ (le-of-eq (elements-fill I t)) (λ i h. (D .all-converted z i h, D′ .all-converted z′ i h))
+          (ap (λ (n : ℕ). drop n d) (elements-fill I t ∙ sym (D .long)) ∙ drop-length d ∙ sym (ap (λ (n : ℕ). drop n d′) (elements-fill I t ∙ sym (D′ .long)) ∙ drop-length d′))

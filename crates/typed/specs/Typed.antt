@@ -27,7 +27,7 @@ typedInputs from to src dst es rounding range = inputs
 abbrev pub refusedNan : ℕ
 refusedNan = 0x7ff8_0000_0000_0000
 
--- ---- a typed call's contract is the chunk call's: the answer and every byte by an equation with the definitions, and demand 3.
+-- ---- a typed call's contract is the chunk call's: the answer and every byte by an equation with the definitions, and demands 1 and 3.
 -- Free is which pattern a NaN in the destination has, of a stored element and of one that is left as it was: the language has one NaN, which stands
 -- here as the quiet one. A refused NaN's value is `refusedNan`.
 abbrev pub TypedContract : ℕ → ℕ → List ℕ → List ℕ → List E.Entry → ℕ → ℕ → Answer → List ℕ → Type 0
