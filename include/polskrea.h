@@ -106,7 +106,7 @@ uint8_t polskrea_convert(const uint8_t *src, size_t src_len,
  *
  * The caller's side is that of polskrea_convert, and each pointer is aligned for its type where its length is not 0. These calls compare
  * floats: where subnormals are taken as zero they equal zeros and each other, as keys and as elements; a signalling NaN raises FE_INVALID, and a subnormal
- * the machine's denormal flag.
+ * the machine's denormal flag, and each traps where it is enabled.
  */
 typedef struct {
     double key;

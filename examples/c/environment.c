@@ -14,6 +14,7 @@
 #define COUNT(a) (sizeof(a) / sizeof *(a))
 #define FLUSH_TO_ZERO 0x8000u
 #define DENORMALS_ARE_ZERO 0x0040u
+#define DENORMAL_MASK 0x0100u
 
 /* Numbers, answers and destinations of a group's calls, one after the other. */
 typedef struct {
@@ -189,7 +190,8 @@ typedef struct {
     const char *name;
     int rounding;
     int traps;
-    unsigned control;
+    unsigned control;  /* bits of MXCSR that are set */
+    unsigned unmasked; /* and that are cleared */
 } environment;
 
 /* Runs a group under an environment, into a record. Returns whether it ended in a trap; *status has what was raised. */
@@ -202,7 +204,7 @@ static int run(void (*group)(void), const environment *e, record *into, unsigned
     if (!trap) {
         fesetround(e->rounding);
         feenableexcept(e->traps);
-        _mm_setcsr(_mm_getcsr() | e->control);
+        _mm_setcsr((_mm_getcsr() | e->control) & ~e->unmasked);
         group();
         *status = _mm_getcsr();
     }
@@ -223,18 +225,19 @@ static const struct {
 };
 
 static const environment environments[] = {
-    {"round to nearest", FE_TONEAREST, 0, 0},
-    {"round towards zero", FE_TOWARDZERO, 0, 0},
-    {"round upward", FE_UPWARD, 0, 0},
-    {"round downward", FE_DOWNWARD, 0, 0},
-    {"exceptions trap", FE_TONEAREST, FE_INVALID | FE_DIVBYZERO | FE_OVERFLOW | FE_UNDERFLOW | FE_INEXACT, 0},
-    {"subnormals are zero", FE_TONEAREST, 0, FLUSH_TO_ZERO | DENORMALS_ARE_ZERO},
+    {"round to nearest", FE_TONEAREST, 0, 0, 0},
+    {"round towards zero", FE_TOWARDZERO, 0, 0, 0},
+    {"round upward", FE_UPWARD, 0, 0, 0},
+    {"round downward", FE_DOWNWARD, 0, 0, 0},
+    {"exceptions trap", FE_TONEAREST, FE_INVALID | FE_DIVBYZERO | FE_OVERFLOW | FE_UNDERFLOW | FE_INEXACT, 0, 0},
+    {"subnormals trap", FE_TONEAREST, 0, 0, DENORMAL_MASK},
+    {"subnormals are zero", FE_TONEAREST, 0, FLUSH_TO_ZERO | DENORMALS_ARE_ZERO, 0},
 };
 
 /* Runs a group under each environment, and prints what came of it. */
 static void compare(void (*group)(void))
 {
-    static const environment by_default = {"default", FE_TONEAREST, 0, 0};
+    static const environment by_default = {"default", FE_TONEAREST, 0, 0, 0};
     unsigned status;
     if (run(group, &by_default, &usual, &status)) {
         fputs("environment: a trap in the default environment\n", stderr);
