@@ -53,6 +53,22 @@ extern "C" {
 #define POLSKREA_OUT_OF_RANGE 6      /* the rounded value is outside an integer target, range code 0 */
 #define POLSKREA_FLOAT_OUT_OF_RANGE 7 /* the rounded value is past a float target's finite range, range code 0 or 2 */
 
+/* What a call answers beside its number. Every call writes every field, 0 where the field does not apply. The first six go with the numbers that
+ * stand beside them. The last five count the converted elements, each in one of them: with the numbers 0, 5, 6 and 7. */
+typedef struct polskrea_answer {
+    uint64_t src_len;  /* 4: the elements of the source */
+    uint64_t dst_len;  /* 4: the elements of the destination */
+    uint64_t position; /* 5, 6, 7: of the refused element, in elements from 0 */
+    uint64_t value;    /* 5, 6, 7: the refused element, unrounded, as the bits of a double: an integer by nearest-even, a NaN by the rule below */
+    uint64_t lowest;   /* 6: the target's lowest number, as the bits of an int64_t; 7: -MAX, as the bits of a double */
+    uint64_t highest;  /* 6: the target's highest number; 7: MAX, as the bits of a double */
+    uint64_t mapped;   /* a key equals the element, whatever the target */
+    uint64_t exact;    /* no key does, and the rounded value equals the element as a number; or a NaN or an infinity goes to a float kind */
+    uint64_t rounded;  /* no key does, and the rounded value is another number, within the target's finite range */
+    uint64_t clamped;  /* no key does, and the rounded value is past that range: range code 1 */
+    uint64_t wrapped;  /* no key does, and the rounded value is past that range: range code 2, integer target */
+} polskrea_answer;
+
 /*
  * Converts the elements of `src` in order into `dst`.
  *
@@ -70,21 +86,22 @@ extern "C" {
  *   1 to 4     dst is as it was.
  *   5, 6, 7    the elements before the refused one are converted; dst is as it was from the refused one on.
  *
- * answer[0..3], always all four written, whatever the number:
- *   4          source count, destination count (in elements), 0, 0
- *   5          position, value, 0, 0
- *   6          position, value, lowest, highest     (the target's ends: lowest as the bits of an int64_t, highest as a uint64_t)
- *   7          position, value, -MAX, MAX           (the target's finite ends, each as the bits of a double)
- *   otherwise  0, 0, 0, 0
- * The position counts elements from 0. The value is the unrounded element as the bits of a double: an integer by nearest-even, a NaN by
- * the rule above.
+ * answer, every field always written; what a line does not name is 0:
+ *   0          the counts
+ *   1, 2, 3    nothing
+ *   4          src_len, dst_len
+ *   5          position, value, the counts
+ *   6, 7       position, value, lowest, highest, the counts
+ * The counts are mapped, exact, rounded, clamped and wrapped: how the converted elements fared. Their sum is the number of converted elements:
+ * all of them for 0, and the position for 5, 6 and 7. A clamped or wrapped element is not counted as rounded too. Either zero is the number 0:
+ * -0.0 that becomes 0 is exact, -0.3 that becomes -0 is rounded.
  *
  * The caller's side:
  *   - Each pointer is good for its length: `src`, `keys`, `targets` for reading, `dst` and `answer` for reading and writing.
  *   - A pointer whose length is 0 is never read or written and may be NULL. `answer` is never NULL.
  *   - `dst` and `answer` overlap nothing else that is passed. `src`, `keys` and `targets` may overlap each other.
  *   - Nothing else writes to the five while the call runs. No length is above PTRDIFF_MAX.
- *   - `answer` is aligned for uint64_t. The others need no alignment.
+ *   - `answer` is aligned for polskrea_answer. The others need no alignment.
  *   - The floating-point environment is the default one (FE_DFL_ENV; MXCSR neither flushes nor zeroes subnormals). That another one changes no
  *     answer of polskrea_convert, raises nothing and traps nowhere is tested (examples/c/environment.c) and not proved.
  * The caller owns all five before, during and after the call; the library keeps no pointer.
@@ -94,10 +111,10 @@ uint8_t polskrea_convert(const uint8_t *src, size_t src_len,
                          const uint8_t *keys, size_t keys_len,
                          const uint8_t *targets, size_t targets_len,
                          uint8_t from, uint8_t to, uint8_t rounding, uint8_t range,
-                         uint64_t answer[4]);
+                         polskrea_answer *answer);
 
 /*
- * Typed calls: slices of numbers in place of bytes, and one slice of map entries. Same steps, same numbers, same four words as
+ * Typed calls: slices of numbers in place of bytes, and one slice of map entries. Same steps, same numbers, same fields as
  * polskrea_convert on the elements' bytes. Every length counts ELEMENTS. They cannot answer 2 or 3. They stand in libpolskrea_typed.a.
  *
  * A NaN's own bits play no part: as the value of refusal 5 every NaN is 0x7ff8000000000000, and which NaN pattern a stored NaN has is free.
@@ -136,30 +153,30 @@ typedef struct {
 uint8_t polskrea_convert_f64_to_u8(const double *src, size_t src_len,
                                    uint8_t *dst, size_t dst_len,
                                    const polskrea_entry_f64_u8 *entries, size_t entries_len,
-                                   uint8_t rounding, uint8_t range, uint64_t answer[4]);
+                                   uint8_t rounding, uint8_t range, polskrea_answer *answer);
 
 uint8_t polskrea_convert_f64_to_i32(const double *src, size_t src_len,
                                     int32_t *dst, size_t dst_len,
                                     const polskrea_entry_f64_i32 *entries, size_t entries_len,
-                                    uint8_t rounding, uint8_t range, uint64_t answer[4]);
+                                    uint8_t rounding, uint8_t range, polskrea_answer *answer);
 
 uint8_t polskrea_convert_f32_to_u8(const float *src, size_t src_len,
                                    uint8_t *dst, size_t dst_len,
                                    const polskrea_entry_f32_u8 *entries, size_t entries_len,
-                                   uint8_t rounding, uint8_t range, uint64_t answer[4]);
+                                   uint8_t rounding, uint8_t range, polskrea_answer *answer);
 
 uint8_t polskrea_convert_f64_to_f32(const double *src, size_t src_len,
                                     float *dst, size_t dst_len,
                                     const polskrea_entry_f64_f32 *entries, size_t entries_len,
-                                    uint8_t rounding, uint8_t range, uint64_t answer[4]);
+                                    uint8_t rounding, uint8_t range, polskrea_answer *answer);
 
 uint8_t polskrea_convert_i64_to_f32(const int64_t *src, size_t src_len,
                                     float *dst, size_t dst_len,
                                     const polskrea_entry_i64_f32 *entries, size_t entries_len,
-                                    uint8_t rounding, uint8_t range, uint64_t answer[4]);
+                                    uint8_t rounding, uint8_t range, polskrea_answer *answer);
 
-/* The version of this interface: 1, for 0.1. */
-#define POLSKREA_VERSION 1
+/* The version of this interface: 2, for 0.2. In 1 the answer was four words, with no counts. */
+#define POLSKREA_VERSION 2
 uint32_t polskrea_version(void);
 
 #ifdef __cplusplus

@@ -1,5 +1,5 @@
-/* What the caller's floating-point environment changes: each group of conversions runs under each environment, and its answers and destinations
- * are compared with those under the default one. The proof takes the default environment: round to nearest, subnormals as they are, no traps.
+/* What the caller's floating-point environment changes: each group of conversions runs under each environment, and its answers, with their counts,
+ * and destinations are compared with those under the default one. The proof takes the default environment: round to nearest, subnormals as they are, no traps.
  * Prints "same", "differs" or "trap", and the exceptions that were raised. */
 #define _GNU_SOURCE
 #include <fenv.h>
@@ -19,7 +19,7 @@
 /* Numbers, answers and destinations of a group's calls, one after the other. */
 typedef struct {
     size_t len;
-    uint8_t bytes[1 << 18];
+    uint8_t bytes[1 << 19];
 } record;
 
 static record usual, now;
@@ -36,10 +36,16 @@ static void note(const void *from, size_t len)
     current->len += len;
 }
 
-static void note_answer(uint8_t number, const uint64_t answer[4])
+/* Notes a call's number and every field of its answer. The counts sum up to the converted elements, in every environment. */
+static void note_answer(uint8_t number, const polskrea_answer *a, size_t count)
 {
+    uint64_t converted = number == POLSKREA_CONVERTED ? count : a->position;
+    if (a->mapped + a->exact + a->rounded + a->clamped + a->wrapped != converted) {
+        fputs("environment: the counts are not of as many elements as are converted\n", stderr);
+        _Exit(1);
+    }
     note(&number, 1);
-    note(answer, 4 * sizeof answer[0]);
+    note(a, sizeof *a);
 }
 
 /* Odd magnitudes above 2^24 and above 2^53, where f32 and f64 round, and the ends. */
@@ -63,10 +69,11 @@ static void by_bytes(const void *src, size_t len, uint8_t from, uint8_t to, uint
 {
     static const size_t width[10] = {1, 2, 4, 8, 1, 2, 4, 8, 4, 8};
     uint8_t dst[512];
-    uint64_t answer[4];
-    size_t dst_len = len / width[from] * width[to];
+    polskrea_answer answer;
+    size_t count = len / width[from], dst_len = count * width[to];
     memset(dst, 0xee, sizeof dst);
-    note_answer(polskrea_convert(src, len, dst, dst_len, NULL, 0, NULL, 0, from, to, rounding, range, answer), answer);
+    uint8_t number = polskrea_convert(src, len, dst, dst_len, NULL, 0, NULL, 0, from, to, rounding, range, &answer);
+    note_answer(number, &answer, count);
     note(dst, dst_len);
 }
 
@@ -107,18 +114,19 @@ static void integer_zero(void)
 }
 
 /* A typed call on each element alone, in every rounding and range, with a map or with none. Patterns are copied, so that no NaN is computed with. */
-#define TYPED(NAME, CALL, SOURCE, TARGET, ENTRY)                                                                                   \
-    static void NAME(const void *patterns, size_t count, const ENTRY *entries, size_t entries_len)                                 \
-    {                                                                                                                              \
-        for (size_t i = 0; i < count * 15; i++) {                                                                                  \
-            SOURCE src;                                                                                                            \
-            TARGET dst;                                                                                                            \
-            uint64_t answer[4];                                                                                                    \
-            memcpy(&src, (const uint8_t *)patterns + i / 15 * sizeof src, sizeof src);                                             \
-            memset(&dst, 0xee, sizeof dst);                                                                                        \
-            note_answer(CALL(&src, 1, &dst, 1, entries, entries_len, (uint8_t)(i % 5), (uint8_t)(i % 15 / 5), answer), answer);    \
-            note(&dst, sizeof dst);                                                                                                \
-        }                                                                                                                          \
+#define TYPED(NAME, CALL, SOURCE, TARGET, ENTRY)                                                                             \
+    static void NAME(const void *patterns, size_t count, const ENTRY *entries, size_t entries_len)                           \
+    {                                                                                                                        \
+        for (size_t i = 0; i < count * 15; i++) {                                                                            \
+            SOURCE src;                                                                                                      \
+            TARGET dst;                                                                                                      \
+            polskrea_answer answer;                                                                                          \
+            memcpy(&src, (const uint8_t *)patterns + i / 15 * sizeof src, sizeof src);                                       \
+            memset(&dst, 0xee, sizeof dst);                                                                                  \
+            uint8_t number = CALL(&src, 1, &dst, 1, entries, entries_len, (uint8_t)(i % 5), (uint8_t)(i % 15 / 5), &answer); \
+            note_answer(number, &answer, 1);                                                                                 \
+            note(&dst, sizeof dst);                                                                                          \
+        }                                                                                                                    \
     }
 
 TYPED(f64_to_u8, polskrea_convert_f64_to_u8, double, uint8_t, polskrea_entry_f64_u8)

@@ -7,7 +7,6 @@
 _Static_assert(CHAR_BIT == 8, "a byte has 8 bits");
 _Static_assert(sizeof(size_t) == 8 && SIZE_MAX == UINT64_MAX, "a length has 64 bits");
 _Static_assert(sizeof(void *) == 8, "a pointer has 64 bits");
-_Static_assert(sizeof(uint64_t[4]) == 32 && _Alignof(uint64_t) == 8, "the answer has four words of 64 bits");
 _Static_assert(sizeof(int32_t) == 4 && _Alignof(int32_t) == 4, "an i32 element has 4 bytes");
 _Static_assert(sizeof(int64_t) == 8 && _Alignof(int64_t) == 8, "an i64 element has 8 bytes");
 _Static_assert(INT64_MIN + 1 == -INT64_MAX && (uint64_t)INT64_MIN == UINT64_C(1) << 63, "integers are two's complement");
@@ -24,6 +23,24 @@ _Static_assert(__BYTE_ORDER__ == __ORDER_LITTLE_ENDIAN__, "integers stand lowest
 #ifdef __FLOAT_WORD_ORDER__
 _Static_assert(__FLOAT_WORD_ORDER__ == __ORDER_LITTLE_ENDIAN__, "floats stand lowest byte first");
 #endif
+
+_Static_assert(sizeof(polskrea_answer) == 88 && _Alignof(polskrea_answer) == 8, "the answer has eleven fields of 64 bits");
+
+#define FIELD(NAME, OFFSET)                                                                  \
+    _Static_assert(offsetof(polskrea_answer, NAME) == (OFFSET), "polskrea_answer: " #NAME);  \
+    _Static_assert(sizeof(((polskrea_answer *)0)->NAME) == 8, "polskrea_answer: " #NAME " size")
+
+FIELD(src_len, 0);
+FIELD(dst_len, 8);
+FIELD(position, 16);
+FIELD(value, 24);
+FIELD(lowest, 32);
+FIELD(highest, 40);
+FIELD(mapped, 48);
+FIELD(exact, 56);
+FIELD(rounded, 64);
+FIELD(clamped, 72);
+FIELD(wrapped, 80);
 
 #define ENTRY(TYPE, SIZE, ALIGN, TARGET)                                    \
     _Static_assert(sizeof(TYPE) == (SIZE), #TYPE ": size");                 \

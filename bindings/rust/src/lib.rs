@@ -3,6 +3,23 @@
 //! The library's side is proved (`crates/polskrea`); what this file has to keep is the caller's side of `include/polskrea.h`, and the
 //! borrow checker keeps it: the destination and the answer are `&mut`, so they overlap nothing, and a slice's pointer is good for its length.
 //! The floating-point environment is left to its user: Rust's own is the default one.
+//!
+//! Each call returns how the converted elements fared, and a refused one has that beside the error:
+//!
+//! ```
+//! use polskrea::{convert_f64_to_u8, Counts, OutOfRangeMode, RoundingMode};
+//!
+//! let src = [1.0, 2.5, 300.0];
+//! let mut dst = [0; 3];
+//! let counts = convert_f64_to_u8(&src, &mut dst, &[], RoundingMode::NearestEven, OutOfRangeMode::Clamp)?;
+//! assert_eq!(dst, [1, 2, 255]);
+//! assert_eq!(counts, Counts { exact: 1, rounded: 1, clamped: 1, ..Counts::default() });
+//!
+//! let refused = convert_f64_to_u8(&src, &mut dst, &[], RoundingMode::NearestEven, OutOfRangeMode::None).unwrap_err();
+//! assert_eq!(refused.error.number(), 6);
+//! assert_eq!(refused.counts, Counts { exact: 1, rounded: 1, ..Counts::default() });
+//! # Ok::<(), polskrea::Refused>(())
+//! ```
 #![no_std]
 #![deny(missing_docs)]
 
@@ -18,14 +35,15 @@ macro_rules! typed {
         ///
         /// # Errors
         ///
-        /// The first refusal, 4 to 7. Refusal 4 leaves `dst` as it was; 5 to 7 leave it so from the refused element on.
+        /// The first refusal, 4 to 7, with the counts of the elements before it. Refusal 4 leaves `dst` as it was; 5 to 7 leave it so from the
+        /// refused element on.
         pub fn $name(
             src: &[$source],
             dst: &mut [$target],
             entries: &[Entry<$source, $target>],
             rounding: RoundingMode,
             range: OutOfRangeMode,
-        ) -> Result<(), CastError> {
+        ) -> Result<Counts, Refused> {
             let mut answer = sys::Answer::default();
             // SAFETY: each pointer and length is a slice's, the two that are written are `&mut`, and nothing is kept.
             let number = unsafe {
@@ -114,6 +132,80 @@ pub struct Map<'a> {
     pub targets: &'a [u8],
 }
 
+/// How the converted elements fared: each counts in one field, a refused one and those behind it in none.
+#[derive(Debug, Clone, Copy, Default, PartialEq, Eq)]
+pub struct Counts {
+    /// A map entry matches the element, whatever its target.
+    pub mapped: u64,
+    /// Unmatched: the rounded value equals the element as a number, or a NaN or an infinity goes to a float kind. Either zero is the number 0.
+    pub exact: u64,
+    /// Unmatched: the rounded value is another number, within the target's finite range.
+    pub rounded: u64,
+    /// Unmatched: the rounded value is past that range, under [`OutOfRangeMode::Clamp`].
+    pub clamped: u64,
+    /// Unmatched: the rounded value is past that range, under [`OutOfRangeMode::Wrap`] with an integer target.
+    pub wrapped: u64,
+}
+
+impl Counts {
+    /// The number of converted elements: the sum of the five.
+    pub fn converted(self) -> u64 {
+        self.mapped + self.exact + self.rounded + self.clamped + self.wrapped
+    }
+}
+
+impl From<&sys::Answer> for Counts {
+    fn from(answer: &sys::Answer) -> Self {
+        Counts {
+            mapped: answer.mapped,
+            exact: answer.exact,
+            rounded: answer.rounded,
+            clamped: answer.clamped,
+            wrapped: answer.wrapped,
+        }
+    }
+}
+
+impl fmt::Display for Counts {
+    fn fmt(&self, f: &mut fmt::Formatter<'_>) -> fmt::Result {
+        let Counts {
+            mapped,
+            exact,
+            rounded,
+            clamped,
+            wrapped,
+        } = self;
+        write!(
+            f,
+            "{mapped} mapped, {exact} exact, {rounded} rounded, {clamped} clamped, {wrapped} wrapped"
+        )
+    }
+}
+
+/// A call that was refused: why, and how the elements before the refused one fared.
+#[derive(Debug, Clone, Copy, PartialEq)]
+pub struct Refused {
+    /// Why.
+    pub error: CastError,
+    /// Of the elements before the refused one. All are 0 for the refusals 1 to 4, which convert nothing.
+    pub counts: Counts,
+}
+
+impl fmt::Display for Refused {
+    fn fmt(&self, f: &mut fmt::Formatter<'_>) -> fmt::Result {
+        fmt::Display::fmt(&self.error, f)
+    }
+}
+
+impl core::error::Error for Refused {}
+
+/// Drops the counts.
+impl From<Refused> for CastError {
+    fn from(refused: Refused) -> Self {
+        refused.error
+    }
+}
+
 /// Why a call was refused.
 #[derive(Debug, Clone, Copy, PartialEq)]
 pub enum CastError {
@@ -196,11 +288,12 @@ impl fmt::Display for CastError {
 
 impl core::error::Error for CastError {}
 
-/// Converts the elements of `src` in order into `dst`, as `include/polskrea.h` says.
+/// Converts the elements of `src` in order into `dst`, as `include/polskrea.h` says, and returns how they fared.
 ///
 /// # Errors
 ///
-/// The first refusal, 2 to 7. Refusals 2 to 4 leave `dst` as it was; 5 to 7 leave it so from the refused element on.
+/// The first refusal, 2 to 7, with the counts of the elements before it. Refusals 2 to 4 leave `dst` as it was; 5 to 7 leave it so from the
+/// refused element on.
 pub fn convert(
     src: &[u8],
     dst: &mut [u8],
@@ -209,7 +302,7 @@ pub fn convert(
     to: Kind,
     rounding: RoundingMode,
     range: OutOfRangeMode,
-) -> Result<(), CastError> {
+) -> Result<Counts, Refused> {
     convert_codes(src, dst, map, from as u8, to as u8, rounding as u8, range as u8)
 }
 
@@ -218,7 +311,7 @@ pub fn convert(
 /// # Errors
 ///
 /// As [`convert`], and 1 where a code is not listed.
-pub fn convert_codes(src: &[u8], dst: &mut [u8], map: Map<'_>, from: u8, to: u8, rounding: u8, range: u8) -> Result<(), CastError> {
+pub fn convert_codes(src: &[u8], dst: &mut [u8], map: Map<'_>, from: u8, to: u8, rounding: u8, range: u8) -> Result<Counts, Refused> {
     let mut answer = sys::Answer::default();
     // SAFETY: each pointer and length is a slice's, the two that are written are `&mut`, and nothing is kept.
     let number = unsafe {
@@ -241,34 +334,41 @@ pub fn convert_codes(src: &[u8], dst: &mut [u8], map: Map<'_>, from: u8, to: u8,
     answered(number, &answer)
 }
 
-/// What a call's number and words say.
-fn answered(number: u8, answer: &sys::Answer) -> Result<(), CastError> {
-    let [a, b, c, d] = *answer;
-    let value = f64::from_bits(b);
-    Err(match number {
-        0 => return Ok(()),
+/// What a call's number and fields say.
+fn answered(number: u8, answer: &sys::Answer) -> Result<Counts, Refused> {
+    let counts = Counts::from(answer);
+    let sys::Answer {
+        position, lowest, highest, ..
+    } = *answer;
+    let value = f64::from_bits(answer.value);
+    let error = match number {
+        0 => return Ok(counts),
         1 => CastError::UnknownCode,
         2 => CastError::BrokenMap,
         3 => CastError::BrokenElement,
-        4 => CastError::LengthMismatch { src_len: a, dst_len: b },
-        5 => CastError::NanOrInf { position: a, value },
+        4 => CastError::LengthMismatch {
+            src_len: answer.src_len,
+            dst_len: answer.dst_len,
+        },
+        5 => CastError::NanOrInf { position, value },
         6 => CastError::OutOfRange {
-            position: a,
+            position,
             value,
-            lo: c as i64,
-            hi: d,
+            lo: lowest as i64,
+            hi: highest,
         },
         7 => CastError::FloatOutOfRange {
-            position: a,
+            position,
             value,
-            lo: f64::from_bits(c),
-            hi: f64::from_bits(d),
+            lo: f64::from_bits(lowest),
+            hi: f64::from_bits(highest),
         },
         _ => CastError::UnknownNumber(number),
-    })
+    };
+    Err(Refused { error, counts })
 }
 
-/// The version of the library's calls: 1, for 0.1.
+/// The version of the library's calls: 2, for 0.2.
 pub fn version() -> u32 {
     // SAFETY: it takes nothing and returns a number.
     unsafe { sys::polskrea_version() }
@@ -276,24 +376,65 @@ pub fn version() -> u32 {
 
 #[cfg(test)]
 mod tests {
-    use super::{answered, CastError};
+    use super::{answered, sys, CastError, Counts, Refused};
+
+    /// Each field another number.
+    const ANSWER: sys::Answer = sys::Answer {
+        src_len: 1,
+        dst_len: 2,
+        position: 3,
+        value: 4,
+        lowest: 5,
+        highest: 6,
+        mapped: 7,
+        exact: 8,
+        rounded: 9,
+        clamped: 10,
+        wrapped: 11,
+    };
+    const COUNTS: Counts = Counts {
+        mapped: 7,
+        exact: 8,
+        rounded: 9,
+        clamped: 10,
+        wrapped: 11,
+    };
 
     #[test]
     fn a_number_above_7_is_unknown() {
         for number in 8..=255 {
-            let answer = answered(number, &[1, 2, 3, 4]);
-            assert_eq!(answer, Err(CastError::UnknownNumber(number)));
-            assert_eq!(answer.unwrap_err().number(), number);
+            let error = CastError::UnknownNumber(number);
+            assert_eq!(answered(number, &ANSWER), Err(Refused { error, counts: COUNTS }));
+            assert_eq!(error.number(), number);
         }
     }
 
     #[test]
-    fn the_numbers_0_to_7_are_known() {
-        assert_eq!(answered(0, &[0; 4]), Ok(()));
-        for number in 1..=7 {
-            let error = answered(number, &[1, 2, 3, 4]).unwrap_err();
+    fn each_number_has_its_fields() {
+        let [value, lo, hi] = [4, 5, 6].map(f64::from_bits);
+        let refusals = [
+            CastError::UnknownCode,
+            CastError::BrokenMap,
+            CastError::BrokenElement,
+            CastError::LengthMismatch { src_len: 1, dst_len: 2 },
+            CastError::NanOrInf { position: 3, value },
+            CastError::OutOfRange {
+                position: 3,
+                value,
+                lo: 5,
+                hi: 6,
+            },
+            CastError::FloatOutOfRange {
+                position: 3,
+                value,
+                lo,
+                hi,
+            },
+        ];
+        assert_eq!(answered(0, &ANSWER), Ok(COUNTS));
+        for (number, error) in (1..).zip(refusals) {
+            assert_eq!(answered(number, &ANSWER), Err(Refused { error, counts: COUNTS }));
             assert_eq!(error.number(), number);
-            assert!(!matches!(error, CastError::UnknownNumber(_)));
         }
     }
 }

@@ -1,7 +1,32 @@
 //! The library's calls as C has them: `include/polskrea.h` says what each answers, leaves, and asks of its caller.
 
-/// The words of an answer, all written by every call that takes them.
-pub type Answer = [u64; 4];
+/// What a call answers beside its number. Every call writes every field, 0 where the field does not apply.
+#[derive(Debug, Clone, Copy, Default, PartialEq, Eq)]
+#[repr(C)]
+pub struct Answer {
+    /// 4: the elements of the source.
+    pub src_len: u64,
+    /// 4: the elements of the destination.
+    pub dst_len: u64,
+    /// 5, 6, 7: of the refused element, in elements from 0.
+    pub position: u64,
+    /// 5, 6, 7: the refused element, unrounded, as the bits of an f64.
+    pub value: u64,
+    /// 6: the target's lowest number, as the bits of an i64; 7: -MAX, as the bits of an f64.
+    pub lowest: u64,
+    /// 6: the target's highest number; 7: MAX, as the bits of an f64.
+    pub highest: u64,
+    /// Converted elements that a map entry matches.
+    pub mapped: u64,
+    /// Unmatched ones whose rounded value is the same number, and NaNs and infinities to a float kind.
+    pub exact: u64,
+    /// Unmatched ones whose rounded value is another number, in range.
+    pub rounded: u64,
+    /// Unmatched ones whose rounded value is past the range, clamped.
+    pub clamped: u64,
+    /// Unmatched ones whose rounded value is past the range, wrapped.
+    pub wrapped: u64,
+}
 
 /// A map entry of a typed call: the key's and the target's own types.
 #[derive(Debug, Clone, Copy, PartialEq)]

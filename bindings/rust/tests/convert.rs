@@ -1,5 +1,5 @@
 //! The wrapper on the paper's samples, each refusal, and what a refusal leaves untouched.
-use polskrea::{convert, convert_codes, version, CastError, Kind, Map, OutOfRangeMode, RoundingMode};
+use polskrea::{convert, convert_codes, version, CastError, Counts, Kind, Map, OutOfRangeMode, Refused, RoundingMode};
 use OutOfRangeMode::{Clamp, None as Refuse, Wrap};
 use RoundingMode::{NearestAway, NearestEven, TowardsNegative, TowardsPositive, TowardsZero};
 
@@ -15,7 +15,7 @@ fn cast(src: &[u8], from: Kind, to: Kind, rounding: RoundingMode, range: OutOfRa
 
 #[test]
 fn the_version_is_this_wrapper_s() {
-    assert_eq!(version(), 1);
+    assert_eq!(version(), 2);
 }
 
 #[test]
@@ -32,11 +32,17 @@ fn an_early_refusal_leaves_the_rest() {
     );
     assert_eq!(
         answer,
-        Err(CastError::OutOfRange {
-            position: 1,
-            value: 300.0,
-            lo: 0,
-            hi: 255
+        Err(Refused {
+            error: CastError::OutOfRange {
+                position: 1,
+                value: 300.0,
+                lo: 0,
+                hi: 255
+            },
+            counts: Counts {
+                rounded: 1,
+                ..Counts::default()
+            }
         })
     );
     assert_eq!(dst, [2, 0xee, 0xee]);
@@ -138,26 +144,37 @@ fn the_first_entry_wins() {
             NearestEven,
             Refuse
         ),
-        Ok(())
+        Ok(Counts {
+            mapped: 2,
+            exact: 1,
+            ..Counts::default()
+        })
     );
     assert_eq!(dst, [7, 9, 1]);
 }
 
 #[test]
-fn refusals_1_to_4_in_their_order() {
+fn refusals_1_to_4_in_their_order_with_no_counts() {
     let mut dst = [0xee; 3];
     let none = Map::default();
-    assert_eq!(convert_codes(&[0; 9], &mut dst, none, 10, 4, 0, 0), Err(CastError::UnknownCode));
-    assert_eq!(convert_codes(&[0; 9], &mut dst, none, 9, 4, 5, 0), Err(CastError::UnknownCode));
     let broken = Map {
         keys: &[0; 8],
         targets: &[],
     };
-    assert_eq!(convert_codes(&[0; 9], &mut dst, broken, 9, 4, 0, 0), Err(CastError::BrokenMap));
-    assert_eq!(convert_codes(&[0; 9], &mut dst, none, 9, 4, 0, 0), Err(CastError::BrokenElement));
+    let uncounted = |error| {
+        Err(Refused {
+            error,
+            counts: Counts::default(),
+        })
+    };
+    let mut call = |len, map, from, rounding| convert_codes(&[0; 16][..len], &mut dst, map, from, 4, rounding, 0);
+    assert_eq!(call(9, broken, 10, 0), uncounted(CastError::UnknownCode));
+    assert_eq!(call(9, broken, 9, 5), uncounted(CastError::UnknownCode));
+    assert_eq!(call(9, broken, 9, 0), uncounted(CastError::BrokenMap));
+    assert_eq!(call(9, none, 9, 0), uncounted(CastError::BrokenElement));
     assert_eq!(
-        convert_codes(&[0; 16], &mut dst, none, 9, 4, 0, 0),
-        Err(CastError::LengthMismatch { src_len: 2, dst_len: 3 })
+        call(16, none, 9, 0),
+        uncounted(CastError::LengthMismatch { src_len: 2, dst_len: 3 })
     );
     assert_eq!(dst, [0xee; 3]);
 }
@@ -166,6 +183,6 @@ fn refusals_1_to_4_in_their_order() {
 fn two_empty_chunks() {
     assert_eq!(
         convert(&[], &mut [], Map::default(), Kind::F64, Kind::F32, NearestEven, Refuse),
-        Ok(())
+        Ok(Counts::default())
     );
 }

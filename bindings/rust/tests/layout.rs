@@ -21,6 +21,21 @@ fn entries() {
 
 #[test]
 fn answer_and_lengths() {
-    assert_eq!((size_of::<Answer>(), align_of::<Answer>()), (32, 8));
+    assert_eq!((size_of::<Answer>(), align_of::<Answer>()), (88, 8));
     assert_eq!(size_of::<usize>(), 8);
+}
+
+#[test]
+fn fields_of_the_answer() {
+    assert_eq!(offset_of!(Answer, src_len), 0);
+    assert_eq!(offset_of!(Answer, dst_len), 8);
+    assert_eq!(offset_of!(Answer, position), 16);
+    assert_eq!(offset_of!(Answer, value), 24);
+    assert_eq!(offset_of!(Answer, lowest), 32);
+    assert_eq!(offset_of!(Answer, highest), 40);
+    assert_eq!(offset_of!(Answer, mapped), 48);
+    assert_eq!(offset_of!(Answer, exact), 56);
+    assert_eq!(offset_of!(Answer, rounded), 64);
+    assert_eq!(offset_of!(Answer, clamped), 72);
+    assert_eq!(offset_of!(Answer, wrapped), 80);
 }

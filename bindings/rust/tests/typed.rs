@@ -1,7 +1,7 @@
-//! Each typed call against the byte route on the elements' bytes: answers, and every element, a NaN as a NaN.
+//! Each typed call against the byte route on the elements' bytes: answers, counts, and every element, a NaN as a NaN.
 use polskrea::{
-    convert, convert_f32_to_u8, convert_f64_to_f32, convert_f64_to_i32, convert_f64_to_u8, convert_i64_to_f32, CastError, Entry, Kind, Map,
-    OutOfRangeMode, RoundingMode,
+    convert, convert_f32_to_u8, convert_f64_to_f32, convert_f64_to_i32, convert_f64_to_u8, convert_i64_to_f32, CastError, Counts, Entry,
+    Kind, Map, OutOfRangeMode, Refused, RoundingMode,
 };
 
 const ROUNDINGS: [RoundingMode; 5] = [
@@ -83,17 +83,29 @@ fn bytes<T: Number>(xs: &[T]) -> Vec<u8> {
     xs.iter().flat_map(|x| x.bytes()).collect()
 }
 
-/// A refusal's NaN is the quiet one; the byte route has the element's own bits.
-fn same_answer(typed: Result<(), CastError>, byte: Result<(), CastError>) -> bool {
-    match (typed, byte) {
-        (Err(CastError::NanOrInf { position: p, value: v }), Err(CastError::NanOrInf { position: q, value: w })) if w.is_nan() => {
-            p == q && v.to_bits() == 0x7ff8_0000_0000_0000
-        }
-        (a, b) => a == b,
+type Answer = Result<Counts, Refused>;
+
+/// The value of a refused NaN, and its position.
+fn refused_nan(answer: Answer) -> Option<(u64, f64)> {
+    match answer.err()?.error {
+        CastError::NanOrInf { position, value } if value.is_nan() => Some((position, value)),
+        _ => None,
     }
 }
 
-type Typed<S, T> = fn(&[S], &mut [T], &[Entry<S, T>], RoundingMode, OutOfRangeMode) -> Result<(), CastError>;
+/// A refusal's NaN is the quiet one; the byte route has the element's own bits.
+fn same_answer(typed: Answer, byte: Answer) -> bool {
+    match (refused_nan(typed), refused_nan(byte)) {
+        (Some((p, v)), Some((q, _))) => p == q && v.to_bits() == 0x7ff8_0000_0000_0000 && counts(typed) == counts(byte),
+        _ => typed == byte,
+    }
+}
+
+fn counts(answer: Answer) -> Counts {
+    answer.unwrap_or_else(|refused| refused.counts)
+}
+
+type Typed<S, T> = fn(&[S], &mut [T], &[Entry<S, T>], RoundingMode, OutOfRangeMode) -> Answer;
 
 fn agree<S: Number, T: Number>(typed: Typed<S, T>, from: Kind, to: Kind) {
     let mut n = Numbers(from as u64 * 10 + to as u64);
@@ -161,14 +173,16 @@ fn an_untouched_nan_keeps_its_bits() {
         for range in [OutOfRangeMode::None, OutOfRangeMode::Wrap] {
             let mut dst = [f32::from_bits(SIGNALLING); 5];
             let answer = convert_f64_to_f32(&[1.0, 1e300, f64::NAN, 2.0, 1e300], &mut dst, &[], rounding, range);
-            assert!(matches!(answer, Err(CastError::FloatOutOfRange { position: 1, .. })));
+            assert!(matches!(answer.unwrap_err().error, CastError::FloatOutOfRange { position: 1, .. }));
             assert_eq!(bits(&dst), [1.0f32.to_bits(), SIGNALLING, SIGNALLING, SIGNALLING, SIGNALLING]);
         }
         let mut dst = [f32::from_bits(SIGNALLING); 2];
-        let answer = convert_f64_to_f32(&[1.0], &mut dst, &[], rounding, OutOfRangeMode::None);
-        assert_eq!(answer, Err(CastError::LengthMismatch { src_len: 1, dst_len: 2 }));
-        let answer = convert_i64_to_f32(&[1], &mut dst, &[], rounding, OutOfRangeMode::None);
-        assert_eq!(answer, Err(CastError::LengthMismatch { src_len: 1, dst_len: 2 }));
+        let mismatch = Err(Refused {
+            error: CastError::LengthMismatch { src_len: 1, dst_len: 2 },
+            counts: Counts::default(),
+        });
+        assert_eq!(convert_f64_to_f32(&[1.0], &mut dst, &[], rounding, OutOfRangeMode::None), mismatch);
+        assert_eq!(convert_i64_to_f32(&[1], &mut dst, &[], rounding, OutOfRangeMode::None), mismatch);
         assert_eq!(bits(&dst), [SIGNALLING; 2]);
     }
 }

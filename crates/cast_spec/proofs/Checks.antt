@@ -6,11 +6,11 @@ use mathlib.Core.List.{List}
 use Prim.Native.Nat.{ℕ, zero, suc, _+_, _-_, _*_, _/_, _%_, _≤_}
 use native.Mathlib.Nat.{div-add-mod', le-of-eq}
 use native.Mathlib.Omega.{arith}
-use lib.Dec.{T, eqb, eqb→eq, lit≤}
+use lib.Dec.{T, eqb, eqb→eq}
 use lib.ListN.{length, drop, length-append, length-drop}
 use Rattle.bytes_le.specs.Bytes.{toLe}
 use Rattle.bytes_le.proofs.Sums.{length-toLe}
-use Rattle.kinds.specs.Answer.{numberOf, noValues, bothCounts, valuesOf}
+use Rattle.kinds.specs.Answer.{numberOf}
 use Rattle.kinds.specs.declared.Outcome.{Outcome}
 use Rattle.kinds.specs.declared.Outcome.the-variants.{Stored, NanOrInf, OutOfRange, FloatOutOfRange}
 use Rattle.kinds.specs.declared.Answer.{Answer}
@@ -77,7 +77,7 @@ module _ (o : ℕ → Outcome) (w : ℕ) where
   length-bytes (suc n) i d h = go (o i) (bytesFrom o w (suc i) n (drop w d)) (length-bytes n (suc i) (drop w d) (subst (λ (z : ℕ). n * w ≤ z) (sym (length-drop w d)) (omega arith)) ∙ length-drop w d)
     where
       go : (x : Outcome) (r : List ℕ) → length r ≡ length d - w → length (bytesNext x w d r) ≡ length d
-      go (Stored b) r e = length-append (toLe w b) r ∙ ap (λ (z : ℕ). z + length r) (length-toLe w b) ∙ omega arith
+      go (Stored b _) r e = length-append (toLe w b) r ∙ ap (λ (z : ℕ). z + length r) (length-toLe w b) ∙ omega arith
       go (NanOrInf v) r e = refl
       go (OutOfRange v lo hi) r e = refl
       go (FloatOutOfRange v lo hi) r e = refl

@@ -11,6 +11,7 @@ use lib.ListN.{length, drop}
 use lib.Seq.{drop-append-add, drop-drop}
 use Rattle.bytes_le.proofs.Places.{first-place, next-place}
 use Rattle.kinds.specs.declared.Answer.{Answer}
+use Rattle.kinds.specs.declared.Fared.{Fared}
 use Rattle.kinds.specs.declared.Outcome.the-variants.{FloatOutOfRange, NanOrInf, OutOfRange, Stored}
 use Rattle.kinds.specs.declared.Outcome.{Outcome}
 use Rattle.cast_spec.specs.Chunk.{Refuses, Reached, sw, dw, answerFrom, answerNext, bytesFrom, bytesNext, Inputs, answerOf, bytesWhole, callOf, codesListed, countsMeet, destinationOf, mapWhole, outcomeAt}
@@ -52,33 +53,33 @@ module _ (o : ℕ → Outcome) (w : ℕ) where
       R = answerFrom o (suc a) n
 
       here : (x : Outcome) → o a ≡ x → 5 ≤ outcomeNumber x → Told (answerNext x a R) (a + suc n)
-      here (Stored b) e l = absurd (omega arith)
+      here (Stored b _) e l = absurd (omega arith)
       here (NanOrInf v) e l = (omega arith, ap outcomeNumber (sym e), ap (outcomeValues a) (sym e))
       here (OutOfRange v lo hi) e l = (omega arith, ap outcomeNumber (sym e), ap (outcomeValues a) (sym e))
       here (FloatOutOfRange v lo hi) e l = (omega arith, ap outcomeNumber (sym e), ap (outcomeValues a) (sym e))
 
       go : (x : Outcome) → o a ≡ x → (5 ≤ numberOf R → Told R (suc a + n)) → 5 ≤ numberOf (answerNext x a R) → Told (answerNext x a R) (a + suc n)
-      go (Stored b) e f h = let g = f h in (omega (arith, g .0), g .1, g .2)
+      go (Stored b _) e f h = let g = f h in (omega (arith, g .0), g .1, g .2)
       go (NanOrInf v) e f h = here (NanOrInf v) e (lit≤ tt)
       go (OutOfRange v lo hi) e f h = here (OutOfRange v lo hi) e (lit≤ tt)
       go (FloatOutOfRange v lo hi) e f h = here (FloatOutOfRange v lo hi) e (lit≤ tt)
 
   -- an element before any refusal is stored, and its place holds it
-  stored : (a n i : ℕ) (d : List ℕ) → i < n → (5 ≤ numberOf (answerFrom o a n) → a + i < positionOf (answerFrom o a n)) → (b : ℕ) × (o (a + i) ≡ Stored b) × (patternAt w (bytesFrom o w a n d) i ≡ b % 256 ^ w)
+  stored : (a n i : ℕ) (d : List ℕ) → i < n → (5 ≤ numberOf (answerFrom o a n) → a + i < positionOf (answerFrom o a n)) → (b : ℕ) × (f : Fared) × (o (a + i) ≡ Stored b f) × (patternAt w (bytesFrom o w a n d) i ≡ b % 256 ^ w)
   stored a zero i d l h = absurd (omega arith)
   stored a (suc n) zero d l h = go (o a) refl h
     where
-      go : (x : Outcome) → o a ≡ x → (5 ≤ numberOf (answerNext x a (answerFrom o (suc a) n)) → a + 0 < positionOf (answerNext x a (answerFrom o (suc a) n))) → (b : ℕ) × (o (a + 0) ≡ Stored b) × (patternAt w (bytesNext x w d (bytesFrom o w (suc a) n (drop w d))) 0 ≡ b % 256 ^ w)
-      go (Stored b) e h = (b, ap o (add-zero a) ∙ e, first-place w b (bytesFrom o w (suc a) n (drop w d)))
+      go : (x : Outcome) → o a ≡ x → (5 ≤ numberOf (answerNext x a (answerFrom o (suc a) n)) → a + 0 < positionOf (answerNext x a (answerFrom o (suc a) n))) → (b : ℕ) × (f : Fared) × (o (a + 0) ≡ Stored b f) × (patternAt w (bytesNext x w d (bytesFrom o w (suc a) n (drop w d))) 0 ≡ b % 256 ^ w)
+      go (Stored b f) e h = (b, f, ap o (add-zero a) ∙ e, first-place w b (bytesFrom o w (suc a) n (drop w d)))
       go (NanOrInf v) e h = absurd (omega (arith, h (lit≤ tt)))
       go (OutOfRange v lo hi) e h = absurd (omega (arith, h (lit≤ tt)))
       go (FloatOutOfRange v lo hi) e h = absurd (omega (arith, h (lit≤ tt)))
   stored a (suc n) (suc i) d l h = go (o a) h (stored (suc a) n i (drop w d) (omega arith))
     where
       go : (x : Outcome) → (5 ≤ numberOf (answerNext x a (answerFrom o (suc a) n)) → a + suc i < positionOf (answerNext x a (answerFrom o (suc a) n)))
-          → ((5 ≤ numberOf (answerFrom o (suc a) n) → suc a + i < positionOf (answerFrom o (suc a) n)) → (b : ℕ) × (o (suc a + i) ≡ Stored b) × (patternAt w (bytesFrom o w (suc a) n (drop w d)) i ≡ b % 256 ^ w))
-          → (b : ℕ) × (o (a + suc i) ≡ Stored b) × (patternAt w (bytesNext x w d (bytesFrom o w (suc a) n (drop w d))) (suc i) ≡ b % 256 ^ w)
-      go (Stored b) h f = let g = f (λ m. omega (arith, h m)) in (g .0, ap o (move a i) ∙ g .1, next-place w b i (bytesFrom o w (suc a) n (drop w d)) ∙ g .2)
+          → ((5 ≤ numberOf (answerFrom o (suc a) n) → suc a + i < positionOf (answerFrom o (suc a) n)) → (b : ℕ) × (f : Fared) × (o (suc a + i) ≡ Stored b f) × (patternAt w (bytesFrom o w (suc a) n (drop w d)) i ≡ b % 256 ^ w))
+          → (b : ℕ) × (f : Fared) × (o (a + suc i) ≡ Stored b f) × (patternAt w (bytesNext x w d (bytesFrom o w (suc a) n (drop w d))) (suc i) ≡ b % 256 ^ w)
+      go (Stored b _) h f = let g = f (λ m. omega (arith, h m)) in (g .0, g .1, ap o (move a i) ∙ g .2, next-place w b i (bytesFrom o w (suc a) n (drop w d)) ∙ g .3)
         where
           move : (a i : ℕ) → a + suc i ≡ suc a + i
           move a i = omega arith
@@ -94,8 +95,8 @@ module _ (o : ℕ → Outcome) (w : ℕ) where
       go : (x : Outcome) (q : ℕ) → 5 ≤ numberOf (answerNext x a (answerFrom o (suc a) n)) → positionOf (answerNext x a (answerFrom o (suc a) n)) ≡ a + q
           → ((r : ℕ) → 5 ≤ numberOf (answerFrom o (suc a) n) → positionOf (answerFrom o (suc a) n) ≡ suc a + r → drop (r * w) (bytesFrom o w (suc a) n (drop w d)) ≡ drop (r * w) (drop w d))
           → drop (q * w) (bytesNext x w d (bytesFrom o w (suc a) n (drop w d))) ≡ drop (q * w) d
-      go (Stored b) zero h e f = absurd (omega (arith, later o w (suc a) n h))
-      go (Stored b) (suc r) h e f =
+      go (Stored b _) zero h e f = absurd (omega (arith, later o w (suc a) n h))
+      go (Stored b _) (suc r) h e f =
           ap (λ (z : ℕ). drop z (toLe w b ++ bytesFrom o w (suc a) n (drop w d))) (shift b r)
           ∙ drop-append-add (toLe w b) (bytesFrom o w (suc a) n (drop w d)) (r * w)
           ∙ f r h (omega arith)
@@ -118,7 +119,7 @@ elements-answer o a zero = inl refl
 elements-answer o a (suc n) = go (o a) (elements-answer o (suc a) n)
   where
     go : (x : Outcome) → (numberOf (answerFrom o (suc a) n) ≡ 0) ⊎ (5 ≤ numberOf (answerFrom o (suc a) n)) → (numberOf (answerNext x a (answerFrom o (suc a) n)) ≡ 0) ⊎ (5 ≤ numberOf (answerNext x a (answerFrom o (suc a) n)))
-    go (Stored b) f = f
+    go (Stored b _) f = f
     go (NanOrInf v) f = inr (lit≤ tt)
     go (OutOfRange v lo hi) f = inr (lit≤ tt)
     go (FloatOutOfRange v lo hi) f = inr (lit≤ tt)
@@ -141,14 +142,14 @@ counted false b c d x s t h e = absurd (omega arith)
 
 -- an outcome that refuses has one of the numbers from 5 on
 refuses : (x : Outcome) → 5 ≤ outcomeNumber x → Refuses x
-refuses (Stored b) h = absurd (omega arith)
+refuses (Stored b _) h = absurd (omega arith)
 refuses (NanOrInf v) h = tt
 refuses (OutOfRange v lo hi) h = tt
 refuses (FloatOutOfRange v lo hi) h = tt
 
 -- a place that is served as a refused outcome asks has that refusal's number and position
 refused-by : (k : Kind) (r : Answer) (v : Value) (i : ℕ) (x : Outcome) → Served k r v i x → 5 ≤ outcomeNumber x → (numberOf r ≡ outcomeNumber x) × (positionOf r ≡ i)
-refused-by k r v i (Stored b) s h = absurd (omega arith)
+refused-by k r v i (Stored b _) s h = absurd (omega arith)
 refused-by k r v i (NanOrInf u) s h = s
 refused-by k r v i (OutOfRange u lo hi) s h = s
 refused-by k r v i (FloatOutOfRange u lo hi) s h = s
@@ -171,7 +172,7 @@ module _ (I : Inputs) where
   abbrev n : ℕ
   n = callOf I .count
 
-  refused-early : callOf I .passed ≡ false → (1 ≤ numberOf (answerOf I)) × (numberOf (answerOf I) ≤ 4)
+  pub refused-early : callOf I .passed ≡ false → (1 ≤ numberOf (answerOf I)) × (numberOf (answerOf I) ≤ 4)
   unfolding answerOf callOf
   refused-early e = checks-answer (codesListed I) (mapWhole I) (bytesWhole I) (countsMeet I) _ _ _ e
 
@@ -191,7 +192,7 @@ module _ (I : Inputs) where
     place : (i : ℕ) → i < n → (5 ≤ numberOf (answerOf I) → i < positionOf (answerOf I)) → ConvertedTo I (destinationOf I) i
     place i l h =
         let s = stored o (dw I) 0 n i (I .destination) l (λ m. subst (λ (z : ℕ). z < positionOf (answerFrom o 0 n)) (sym (zero-add i)) (subst (λ (r : Answer). i < positionOf r) (answer-is I t) (h (subst (λ (r : Answer). 5 ≤ numberOf r) (sym (answer-is I t)) m)))) in
-        record { pattern = s .0; outcome = ap o (sym (zero-add i)) ∙ s .1; stored = ap (λ (d : List ℕ). patternAt (dw I) d i) (destination-is I t) ∙ s .2 }
+        record { pattern = s .0; fared = s .1; outcome = ap o (sym (zero-add i)) ∙ s .2; stored = ap (λ (d : List ℕ). patternAt (dw I) d i) (destination-is I t) ∙ s .3 }
 
     rest : 5 ≤ numberOf (answerOf I) → drop (positionOf (answerOf I) * dw I) (destinationOf I) ≡ drop (positionOf (answerOf I) * dw I) (I .destination)
     rest h =

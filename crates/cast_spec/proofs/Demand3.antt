@@ -3,7 +3,7 @@ use mathlib.Core.Path.{_≡_, refl, sym, subst}
 use mathlib.Core.Bool.{Bool, true, false, cond}
 use Prim.Native.Nat.{ℕ, _-_, _*_, _^_, _<_}
 use native.Mathlib.Nat.{mul-pos, zero-add}
-use lib.Dec.{T, ltb, eqb, lit<, lit≤}
+use lib.Dec.{ltb, eqb, lit<, lit≤}
 use lib.IntN.{ℤ}
 use lib.Pow.{pow-pos}
 use Rattle.patterns.specs.Kind.{Kind, integer, binary, WellFormed}

@@ -11,6 +11,8 @@ use Rattle.grid.proofs.Int.{up, dn, ints, up-neg, dn-neg}
 use Rattle.grid.proofs.Picked.{picked}
 use Rattle.patterns.specs.Kind.{Kind, integer, binary, gridOf, bits, lowest, highest, InRange, WellFormed}
 use Rattle.patterns.specs.Value.{Value, inf, num, negative, valueOf}
+use Rattle.grid.specs.Ternary.{ternaryOf}
+use Rattle.kinds.specs.Counts.{byPick}
 use Rattle.kinds.specs.declared.OutOfRangeMode.{OutOfRangeMode}
 use Rattle.kinds.specs.declared.OutOfRangeMode.the-variants.{None, Clamp, Wrap}
 use Rattle.patterns.specs.Pattern.{patternOf, asF64}
@@ -29,7 +31,7 @@ use Rattle.patterns.proofs.Floats as floats
 
 -- the answer r, and the place of the position i, which holds v, are as the outcome says
 abbrev pub Served : Kind → Answer → Value → ℕ → Outcome → Type 0
-Served k r v i (Stored b) = Kept r i × (b < 2 ^ bits k → v ≡ valueOf k b)
+Served k r v i (Stored b _) = Kept r i × (b < 2 ^ bits k → v ≡ valueOf k b)
 Served k r v i (NanOrInf x) = RefusedBy 5 r i
 Served k r v i (OutOfRange x lo hi) = RefusedBy 6 r i
 Served k r v i (FloatOutOfRange x lo hi) = RefusedBy 7 r i
@@ -108,7 +110,7 @@ each-of c r v i x ok t f =
     let P = picked (gridOf k) (sound k ok) (S .rule) x in
     let e = sign-of (S .from) b x (t .finite) in
     let g = subst (λ (o : Outcome). Served k r v i o) (outcome-is S b x (t .finite) (t .unmatched)) f in
-    let h = by-range (Served k r v i) k y (Stored (patternOf k neg y)) (beyond k (S .range) (asF64 (S .from) b) neg y) g in record {
+    let h = by-range (Served k r v i) k y (Stored (patternOf k neg y) (byPick (ternaryOf x y))) (beyond k (S .range) (asF64 (S .from) b) neg y) g in record {
       y = y;
       pick = P;
       result = λ (a : InRange k y). (h .0 a .0, h .0 a .1 (pattern-fits k neg y ok (P .on) a) ∙ pattern-back k neg y ok (P .on) a (pick-sign (gridOf k) (sound k ok) (S .rule) neg x e));

@@ -5,10 +5,12 @@ use mathlib.Core.List.{[]}
 use Prim.Native.Nat.{ℕ}
 use lib.IntN.{ℤ}
 use Rattle.grid.specs.Round.{pick}
+use Rattle.grid.specs.Ternary.{ternaryOf}
 use Rattle.grid.specs.declared.RoundingMode.{RoundingMode}
 use Rattle.patterns.specs.Kind.{Kind, integer, binary, gridOf}
 use Rattle.patterns.specs.Value.{Value, nan, inf, num, negative, valueOf}
 use Rattle.patterns.specs.Pattern.{asF64, patternOf}
+use Rattle.kinds.specs.Counts.{byPick}
 use Rattle.kinds.specs.declared.OutOfRangeMode.{OutOfRangeMode}
 use Rattle.kinds.specs.declared.OutOfRangeMode.the-variants.{None, Clamp, Wrap}
 use Rattle.kinds.specs.declared.Outcome.the-variants.{Stored}
@@ -17,7 +19,7 @@ use Rattle.kinds.specs.declared.Lookup.the-variants.{Found, Missing}
 use Rattle.cast_spec.specs.Element.{beyond, converted, foundOr, inRange, ranged}
 use Rattle.cast_spec.specs.Fit.{fitOf, filled, unmapped}
 
-module _ (range : OutOfRangeMode) (neg : Bool) (y : ℤ) where
+module _ (range : OutOfRangeMode) (neg : Bool) (x y : ℤ) where
   beyond-any : (k : Kind) (v v′ : ℕ) → fitOf (beyond k range v neg y) ≡ fitOf (beyond k range v′ neg y)
   unfolding beyond
   beyond-any (integer s n) v v′ = go range
@@ -48,17 +50,17 @@ module _ (range : OutOfRangeMode) (neg : Bool) (y : ℤ) where
       go Clamp = refl
       go Wrap = refl
 
-  pub fit-any : (k : Kind) (v v′ : ℕ) → fitOf (ranged k range v neg y) ≡ fitOf (ranged k range v′ neg y)
+  pub fit-any : (k : Kind) (v v′ : ℕ) → fitOf (ranged k range v neg x y) ≡ fitOf (ranged k range v′ neg x y)
   fit-any k v v′ = go (inRange k y)
     where
-      go : (c : Bool) → fitOf (cond c (Stored (patternOf k neg y)) (beyond k range v neg y)) ≡ fitOf (cond c (Stored (patternOf k neg y)) (beyond k range v′ neg y))
+      go : (c : Bool) → fitOf (cond c (Stored (patternOf k neg y) (byPick (ternaryOf x y))) (beyond k range v neg y)) ≡ fitOf (cond c (Stored (patternOf k neg y) (byPick (ternaryOf x y))) (beyond k range v′ neg y))
       go true = refl
       go false = beyond-any k v v′
 
-  ranged-filled : (k : Kind) (v : ℕ) → filled k v (fitOf (ranged k range v neg y)) ≡ ranged k range v neg y
+  ranged-filled : (k : Kind) (v : ℕ) → filled k v (fitOf (ranged k range v neg x y)) ≡ ranged k range v neg x y
   ranged-filled k v = go (inRange k y)
     where
-      go : (c : Bool) → filled k v (fitOf (cond c (Stored (patternOf k neg y)) (beyond k range v neg y))) ≡ cond c (Stored (patternOf k neg y)) (beyond k range v neg y)
+      go : (c : Bool) → filled k v (fitOf (cond c (Stored (patternOf k neg y) (byPick (ternaryOf x y))) (beyond k range v neg y))) ≡ cond c (Stored (patternOf k neg y) (byPick (ternaryOf x y))) (beyond k range v neg y)
       go true = refl
       go false = beyond-filled k v
 
@@ -67,7 +69,7 @@ unmapped-filled : (from to : Kind) (rule : RoundingMode) (range : OutOfRangeMode
 unmapped-filled from to rule range b = go to (valueOf from b)
   where
     go : (k : Kind) (v : Value) → filled k (asF64 from b) (fitOf (converted (record { from = from; to = to; rule = rule; range = range; entries = [] }) b k v)) ≡ converted (record { from = from; to = to; rule = rule; range = range; entries = [] }) b k v
-    go k (num x) = ranged-filled range (negative from b) (pick (gridOf k) rule x) k (asF64 from b)
+    go k (num x) = ranged-filled range (negative from b) x (pick (gridOf k) rule x) k (asF64 from b)
     go (integer s n) (inf neg) = refl
     go (integer s n) nan = refl
     go (binary p w s) (inf neg) = refl

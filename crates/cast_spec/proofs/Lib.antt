@@ -6,6 +6,8 @@ pub mod Widths
 pub mod Checks
 pub mod Demand3
 pub mod Demand1
+pub mod Classes
+pub mod Counts
 pub mod Contract
 pub mod Refusals
 pub mod Runs

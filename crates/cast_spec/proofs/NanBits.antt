@@ -22,6 +22,9 @@ use Rattle.patterns.specs.Pattern.{quiet, nanPattern, asF64, asF64From}
 use Rattle.patterns.proofs.Floats.{nan-back}
 use Rattle.patterns.proofs.Integers.{no-integer-nan}
 use Rattle.kinds.specs.Codes.{kindOf, roundingOf, rangeOf}
+use Rattle.kinds.specs.declared.Counts.{Counts}
+use Rattle.kinds.specs.declared.Fared.{Fared}
+use Rattle.kinds.specs.declared.Fared.the-variants.{Mapped, Exact, Rounded, Clamped, Wrapped}
 use Rattle.kinds.specs.declared.OutOfRangeMode.{OutOfRangeMode}
 use Rattle.kinds.specs.declared.Lookup.{Lookup}
 use Rattle.kinds.specs.declared.Lookup.the-variants.{Found}
@@ -29,12 +32,14 @@ use Rattle.kinds.specs.declared.Outcome.{Outcome}
 use Rattle.kinds.specs.declared.Outcome.the-variants.{Stored, NanOrInf, OutOfRange, FloatOutOfRange}
 use Rattle.kinds.specs.declared.Answer.{Answer}
 use Rattle.kinds.specs.declared.Answer.the-variants as A
+use Rattle.kinds.specs.declared.Reply.{Reply}
 use Rattle.cast_spec.specs.Element.{Entry, Settings, matches, lookupOf, foundOr, converted, outcomeOf}
-use Rattle.cast_spec.specs.Chunk.{Inputs, inputs, entriesFrom, sw, dw, settingsOf, codesListed, mapWhole, bytesWhole, countsMeet, callOf, outcomeAt, answerNext, answerFrom, answerOf, bytesNext, bytesFrom, destinationOf}
+use Rattle.cast_spec.specs.Chunk.{Inputs, inputs, entriesFrom, sw, dw, settingsOf, codesListed, mapWhole, bytesWhole, countsMeet, callOf, outcomeAt, answerNext, answerFrom, answerOf, convertedOf, faredAs, countBelow, countsOf, bytesNext, bytesFrom, destinationOf}
 use Rattle.cast_spec.specs.Contract.{Contract}
 use Rattle.cast_spec.specs.NanBits.{Alike, AlikeBytes, AlikeInputs, SameAnswer, SameButNans}
 use Rattle.cast_spec.proofs.Widths.{kind-fits}
 use Rattle.cast_spec.proofs.Checks.{second-fourth, counts-meet, long-written}
+use Rattle.cast_spec.proofs.Counts.{converted-within}
 use Rattle.cast_spec.proofs.Steps.{no-map}
 
 -- ---- a NaN is one by the bits below its sign
@@ -118,8 +123,9 @@ nan-step from to b = by-kind (λ (k : Kind). valueOf k b ≡ nan → NanStep (ki
 pub record StoredNans (k : Kind) (o o′ : Outcome) : Type 0 where
   pub b : ℕ
   pub b′ : ℕ
-  pub first : o ≡ Stored b
-  pub second : o′ ≡ Stored b′
+  pub fared : Fared
+  pub first : o ≡ Stored b fared
+  pub second : o′ ≡ Stored b′ fared
   pub nans : (valueOf k b ≡ nan) × (valueOf k b′ ≡ nan)
 
 pub record RefusedNans (o o′ : Outcome) : Type 0 where
@@ -132,9 +138,9 @@ pub record RefusedNans (o o′ : Outcome) : Type 0 where
 abbrev Outcomes : Kind → Outcome → Outcome → Type 0
 Outcomes k o o′ = (o ≡ o′) ⊎ (StoredNans k o o′ ⊎ RefusedNans o o′)
 
-stored-alike : (k : Kind) (a b : ℕ) → Alike k a b → Outcomes k (Stored a) (Stored b)
-stored-alike k a b (inl e) = inl (ap Stored e)
-stored-alike k a b (inr h) = inr (inl (record { b = a; b′ = b; first = refl; second = refl; nans = h }))
+mapped-alike : (k : Kind) (a b : ℕ) → Alike k a b → Outcomes k (Stored a Mapped) (Stored b Mapped)
+mapped-alike k a b (inl e) = inl (ap (λ (z : ℕ). Stored z Mapped) e)
+mapped-alike k a b (inr h) = inr (inl (record { b = a; b′ = b; fared = Mapped; first = refl; second = refl; nans = h }))
 
 module _ (from to : ℕ) (rule : RoundingMode) (choice : OutOfRangeMode) where
   abbrev S : List Entry → Settings
@@ -142,7 +148,7 @@ module _ (from to : ℕ) (rule : RoundingMode) (choice : OutOfRangeMode) where
 
   nan-outcome : (es es′ : List Entry) (a b : ℕ) → valueOf (kindOf from) a ≡ nan → valueOf (kindOf from) b ≡ nan → (k : Kind) → NanStep k (kindOf from) a → NanStep k (kindOf from) b → Outcomes k (converted (S es) a k nan) (converted (S es′) b k nan)
   nan-outcome es es′ a b h l (integer s n) u v = inr (inr (record { v = asF64 (kindOf from) a; v′ = asF64 (kindOf from) b; first = refl; second = refl; nans = (ap (λ (x : Value). valueOf f64 (asF64From (kindOf from) a x)) h ∙ u, ap (λ (x : Value). valueOf f64 (asF64From (kindOf from) b x)) l ∙ v) }))
-  nan-outcome es es′ a b h l (binary p w s) u v = inr (inl (record { b = nanPattern (kindOf from) p w a; b′ = nanPattern (kindOf from) p w b; first = refl; second = refl; nans = (u, v) }))
+  nan-outcome es es′ a b h l (binary p w s) u v = inr (inl (record { b = nanPattern (kindOf from) p w a; b′ = nanPattern (kindOf from) p w b; fared = Exact; first = refl; second = refl; nans = (u, v) }))
 
   converted-alike : (es es′ : List Entry) (a b : ℕ) → Alike (kindOf from) a b → Outcomes (kindOf to) (converted (S es) a (kindOf to) (valueOf (kindOf from) a)) (converted (S es′) b (kindOf to) (valueOf (kindOf from) b))
   converted-alike es es′ a b (inl e) = inl (
@@ -162,9 +168,9 @@ module _ (from to : ℕ) (rule : RoundingMode) (choice : OutOfRangeMode) where
         let l : j < j + suc n = omega arith in
         subst (λ (x : Value). Outcomes (kindOf to) (foundOr (lookupOf (kindOf from) v (entriesFrom sw dw ks ts j (suc n))) o) (foundOr (cond (matches v x) (Found (patternAt dw ts′ j)) (lookupOf (kindOf from) v (entriesFrom sw dw ks′ ts′ (suc j) n))) o′))
         (same-value (kindOf from) (patternAt sw ks j) (patternAt sw ks′ j) (hk j l))
-        (go (matches v (valueOf (kindOf from) (patternAt sw ks j))) _ _ (stored-alike (kindOf to) (patternAt dw ts j) (patternAt dw ts′ j) (ht j l)) (lookup-alike n (suc j) (λ i m. hk i (omega arith)) (λ i m. ht i (omega arith)) v o o′ h))
+        (go (matches v (valueOf (kindOf from) (patternAt sw ks j))) _ _ (mapped-alike (kindOf to) (patternAt dw ts j) (patternAt dw ts′ j) (ht j l)) (lookup-alike n (suc j) (λ i m. hk i (omega arith)) (λ i m. ht i (omega arith)) v o o′ h))
       where
-        go : (t : Bool) (l m : Lookup) {a b : ℕ} → Outcomes (kindOf to) (Stored a) (Stored b) → Outcomes (kindOf to) (foundOr l o) (foundOr m o′) → Outcomes (kindOf to) (foundOr (cond t (Found a) l) o) (foundOr (cond t (Found b) m) o′)
+        go : (t : Bool) (l m : Lookup) {a b : ℕ} → Outcomes (kindOf to) (Stored a Mapped) (Stored b Mapped) → Outcomes (kindOf to) (foundOr l o) (foundOr m o′) → Outcomes (kindOf to) (foundOr (cond t (Found a) l) o) (foundOr (cond t (Found b) m) o′)
         go true l m x y = x
         go false l m x y = y
 
@@ -188,7 +194,7 @@ module _ (k : Kind) (o o′ : ℕ → Outcome) where
   answer-next i x y r r′ (inl e) h = subst (λ (z : Outcome). SameAnswer (answerNext x i r) (answerNext z i r′)) e (go x)
     where
       go : (z : Outcome) → SameAnswer (answerNext z i r) (answerNext z i r′)
-      go (Stored b) = h
+      go (Stored b _) = h
       go (NanOrInf v) = inl refl
       go (OutOfRange v lo hi) = inl refl
       go (FloatOutOfRange v lo hi) = inl refl
@@ -231,7 +237,7 @@ module _ (k : Kind) (o o′ : ℕ → Outcome) where
     bytes-next n x y d d′ r r′ (inl e) h g = subst (λ (z : Outcome). Both (suc n) (bytesNext x w d r) (bytesNext z w d′ r′)) e (go x)
       where
         go : (z : Outcome) → Both (suc n) (bytesNext z w d r) (bytesNext z w d′ r′)
-        go (Stored b) = put-both n b b r r′ (inl refl) g
+        go (Stored b _) = put-both n b b r r′ (inl refl) g
         go (NanOrInf v) = h
         go (OutOfRange v lo hi) = h
         go (FloatOutOfRange v lo hi) = h
@@ -254,6 +260,24 @@ third : (x y z : Bool) → T (x && y && z) → T z
 third true true z h = h
 third true false z h = absurd h
 third false y z h = absurd h
+
+-- ---- the counts
+same-class : (k : Kind) (f : Fared) (x y : Outcome) → Outcomes k x y → faredAs f x ≡ faredAs f y
+same-class k f x y (inl e) = ap (faredAs f) e
+same-class k f x y (inr (inl s)) = ap (faredAs f) (s .first) ∙ sym (ap (faredAs f) (s .second))
+same-class k f x y (inr (inr s)) = ap (faredAs f) (s .first) ∙ sym (ap (faredAs f) (s .second))
+
+same-converted : (n : ℕ) (r a : Answer) → SameAnswer r a → convertedOf n r ≡ convertedOf n a
+same-converted n r a (inl e) = ap (convertedOf n) e
+same-converted n r a (inr b) = ap (convertedOf n) (b .first) ∙ sym (ap (convertedOf n) (b .second))
+
+five-same : {m e r c w m′ e′ r′ c′ w′ : ℕ} → m ≡ m′ → e ≡ e′ → r ≡ r′ → c ≡ c′ → w ≡ w′
+    → _≡_ {A = Counts} (record { mapped = m; exact = e; rounded = r; clamped = c; wrapped = w }) (record { mapped = m′; exact = e′; rounded = r′; clamped = c′; wrapped = w′ })
+five-same a b c d e = rw (a, b, c, d, e)
+
+map-passed : (I : Inputs) → T (callOf I .passed) → T (mapWhole I)
+unfolding callOf
+map-passed I h = second-fourth (codesListed I) (mapWhole I) (bytesWhole I) (countsMeet I) h .0
 
 -- ---- any two such inputs
 module _ (I : Inputs) (s d ks ts : List ℕ) (hs : AlikeBytes (kindOf (I .from)) (sw I) (I .source) s) (hd : AlikeBytes (kindOf (I .to)) (dw I) (I .destination) d)
@@ -324,12 +348,30 @@ module _ (I : Inputs) (s d ks ts : List ℕ) (hs : AlikeBytes (kindOf (I .from))
       go true h = h tt
       go false h = hd
 
-  same : (r : Answer) (d′ : List ℕ) → Contract I r d′ → SameButNans J r d′
+  count-alike : (f : Fared) (m : ℕ) → ((j : ℕ) → j < m → Outcomes (kindOf (I .to)) (outcomeAt (callOf I) j) (outcomeAt (callOf J) j)) → countBelow (outcomeAt (callOf I)) f m ≡ countBelow (outcomeAt (callOf J)) f m
+  count-alike f zero h = refl
+  count-alike f (suc m) h = ap₂ (λ (b : Bool) (k : ℕ). cond b (suc k) k) (same-class (kindOf (I .to)) f (outcomeAt (callOf I) m) (outcomeAt (callOf J) m) (h m (omega arith))) (count-alike f m (λ j l. h j (omega arith)))
+
+  converted-same : convertedOf (callOf I .count) (answerOf I) ≡ convertedOf (callOf J .count) (answerOf J)
+  converted-same = same-converted (callOf I .count) (answerOf I) (answerOf J) answers ∙ ap (λ (m : ℕ). convertedOf m (answerOf J)) count-same
+
+  below-alike : (f : Fared) → countBelow (outcomeAt (callOf I)) f (convertedOf (callOf I .count) (answerOf I)) ≡ countBelow (outcomeAt (callOf J)) f (convertedOf (callOf J .count) (answerOf J))
+  below-alike f = count-alike f (convertedOf (callOf I .count) (answerOf I)) reached ∙ ap (countBelow (outcomeAt (callOf J)) f) converted-same
+    where
+      reached : (j : ℕ) → j < convertedOf (callOf I .count) (answerOf I) → Outcomes (kindOf (I .to)) (outcomeAt (callOf I) j) (outcomeAt (callOf J) j)
+      reached j l = let w = converted-within I j l in alikes (map-passed I (w .0)) j (omega arith) (omega arith)
+
+  counts-alike : countsOf I ≡ countsOf J
+  unfolding countsOf
+  counts-alike = five-same (below-alike Mapped) (below-alike Exact) (below-alike Rounded) (below-alike Clamped) (below-alike Wrapped)
+
+  same : (r : Reply) (d′ : List ℕ) → Contract I r d′ → SameButNans J r d′
   same r d′ c = record {
     answer = subst (λ (x : Answer). SameAnswer x (answerOf J)) (sym (c .answer)) answers;
+    counts = c .counts ∙ counts-alike;
     destination = subst (λ (x : List ℕ). AlikeBytes (kindOf (I .to)) (dw I) x (destinationOf J)) (sym (c .bytes)) destinations;
   }
 
 -- what meets the contract on I meets it, but for NaNs, on every J that differs in the patterns of NaNs alone
-pub same-but-nans : (I J : Inputs) (r : Answer) (d : List ℕ) → AlikeInputs I J → Contract I r d → SameButNans J r d
+pub same-but-nans : (I J : Inputs) (r : Reply) (d : List ℕ) → AlikeInputs I J → Contract I r d → SameButNans J r d
 same-but-nans I J r d h c = subst (λ (X : Inputs). SameButNans X r d) (sym (h .codes)) (same I (J .source) (J .destination) (J .keys) (J .targets) (h .source) (h .destination) (h .keys) (h .targets) r d c)

@@ -1,5 +1,6 @@
--- What demand 1 settles: whatever the inputs are, any two answers that meet it have one number and one set of values, and any two destinations of bytes are one.
+-- What demand 1 and the counts' classes settle: whatever the inputs are, any two answers that meet them have one number, one set of values and one set of counts, and any two destinations of bytes are one.
 use mathlib.Core.Path.{_≡_, refl, sym, ap, subst, _∙_}
+use mathlib.Core.Logic.{inl, inr}
 use mathlib.Core.Bool.{Bool, true, false, _&&_}
 use mathlib.Core.List.{List}
 use Prim.Native.Nat.{ℕ, zero, suc, _*_, _%_, _^_, _≤_, _<_}
@@ -11,8 +12,12 @@ use lib.Seq.{drop-length}
 use Rattle.bytes_le.specs.Bytes.{patternAt}
 use Rattle.bytes_le.proofs.Unique.{AreBytes, one-chunk}
 use Rattle.kinds.specs.Answer.{numberOf, valuesOf, positionOf, outcomeValues}
+use Rattle.kinds.specs.Counts.{countOf}
 use Rattle.kinds.specs.declared.Answer.{Answer}
-use Rattle.cast_spec.specs.Chunk.{Inputs, callOf, outcomeAt, dw, codesListed, mapWhole, bytesWhole, countsMeet}
+use Rattle.kinds.specs.declared.Counts.{Counts}
+use Rattle.kinds.specs.declared.Fared.{Fared}
+use Rattle.cast_spec.specs.Chunk.{Inputs, Call, callOf, outcomeAt, dw, codesListed, mapWhole, bytesWhole, countsMeet, convertedOf}
+use Rattle.cast_spec.specs.Counted.{Fares, HowMany, Counted}
 use Rattle.cast_spec.specs.Demand1.{ConvertedTo, Demand1}
 use Rattle.cast_spec.proofs.Checks.{elements-fill}
 use Rattle.grid.proofs.Neighbours.{cut}
@@ -87,3 +92,19 @@ module _ (I : Inputs) (r r′ : Answer) (d d′ : List ℕ) (D : Demand1 I r d) 
           let z′ : numberOf r′ ≡ 0 = sym same ∙ z in
           joined (callOf I .count) b b′ (le-of-eq (elements-fill I t)) (λ i h. (D .all-converted z i h, D′ .all-converted z′ i h))
           (ap (λ (n : ℕ). drop n d) (elements-fill I t ∙ sym (D .long)) ∙ drop-length d ∙ sym (ap (λ (n : ℕ). drop n d′) (elements-fill I t ∙ sym (D′ .long)) ∙ drop-length d′))
+
+-- ---- so many positions are of a class in one way, so any two sets of counts are one
+how-many-once : (P : ℕ → Type 0) (n k k′ : ℕ) → HowMany P n k → HowMany P n k′ → k ≡ k′
+how-many-once P zero k k′ h h′ = h ∙ sym h′
+how-many-once P (suc n) zero zero h h′ = refl
+how-many-once P (suc n) zero (suc k′) h (inl h′) = absurd (h .0 (h′ .0))
+how-many-once P (suc n) zero (suc k′) h (inr h′) = how-many-once P n zero (suc k′) (h .1) (h′ .1)
+how-many-once P (suc n) (suc k) zero (inl h) h′ = absurd (h′ .0 (h .0))
+how-many-once P (suc n) (suc k) zero (inr h) h′ = how-many-once P n (suc k) zero (h .1) (h′ .1)
+how-many-once P (suc n) (suc k) (suc k′) (inl h) (inl h′) = ap suc (how-many-once P n k k′ (h .1) (h′ .1))
+how-many-once P (suc n) (suc k) (suc k′) (inl h) (inr h′) = absurd (h′ .0 (h .0))
+how-many-once P (suc n) (suc k) (suc k′) (inr h) (inl h′) = absurd (h .0 (h′ .0))
+how-many-once P (suc n) (suc k) (suc k′) (inr h) (inr h′) = how-many-once P n (suc k) (suc k′) (h .1) (h′ .1)
+
+pub one-set-of-counts : (c : Call) (r : Answer) (t t′ : Counts) → Counted c r t → Counted c r t′ → (f : Fared) → countOf f t ≡ countOf f t′
+one-set-of-counts c r t t′ h h′ f = how-many-once (Fares c f) (convertedOf (c .count) r) (countOf f t) (countOf f t′) (h .each f) (h′ .each f)

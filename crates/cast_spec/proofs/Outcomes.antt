@@ -1,11 +1,12 @@
 -- What a fit says of the outcome that it is of: a pattern is stored, and where there is none the element is refused.
-use mathlib.Core.Path.{_≡_, ap, subst}
+use mathlib.Core.Path.{_≡_, subst}
 use mathlib.Core.Logic.{⊎-elim}
 use mathlib.Core.List.{[], _∷_}
 use Prim.Native.Nat.{ℕ}
 use native.Mathlib.Omega.{arith}
 use types.Run.{OneOf}
 use denote.Enum.Declared.{tagOf}
+use Rattle.kinds.specs.declared.Fared.{Fared}
 use Rattle.kinds.specs.declared.Fit.{Fit}
 use Rattle.kinds.specs.declared.Fit.the-variants.{Pattern}
 use Rattle.kinds.specs.declared.Outcome.{Outcome}
@@ -14,18 +15,18 @@ use Rattle.kinds.proofs.Fit.{the-type}
 use Rattle.cast_spec.specs.Chunk.{Refuses}
 use Rattle.cast_spec.specs.Fit.{fitOf}
 
-pub stored-pattern : (o : Outcome) (b : ℕ) → fitOf o ≡ Pattern b → o ≡ Stored b
-stored-pattern (Stored a) b e = ap Stored (cc)
-stored-pattern (NanOrInf v) b e = let z : _≡_ {A = ℕ} 0 1 = cc in absurd (omega arith)
-stored-pattern (OutOfRange v lo hi) b e = let z : _≡_ {A = ℕ} 0 1 = cc in absurd (omega arith)
-stored-pattern (FloatOutOfRange v lo hi) b e = let z : _≡_ {A = ℕ} 0 1 = cc in absurd (omega arith)
+pub stored-pattern : (o : Outcome) (b : ℕ) (f : Fared) → fitOf o ≡ Pattern b f → o ≡ Stored b f
+stored-pattern (Stored a g) b f e = cc
+stored-pattern (NanOrInf v) b f e = let z : _≡_ {A = ℕ} 0 1 = cc in absurd (omega arith)
+stored-pattern (OutOfRange v lo hi) b f e = let z : _≡_ {A = ℕ} 0 1 = cc in absurd (omega arith)
+stored-pattern (FloatOutOfRange v lo hi) b f e = let z : _≡_ {A = ℕ} 0 1 = cc in absurd (omega arith)
 
 -- no pattern, as a program tells it: by the number of the fit's variant
 pub refuses : (o : Outcome) (x : Fit) → x ≡ fitOf o → OneOf (1 ∷ 2 ∷ []) (tagOf the-type x) → Refuses o
 refuses o x e t = go o (subst (λ (f : Fit). OneOf (1 ∷ 2 ∷ []) (tagOf the-type f)) e t)
   where
     go : (o : Outcome) → OneOf (1 ∷ 2 ∷ []) (tagOf the-type (fitOf o)) → Refuses o
-    go (Stored b) t = absurd (⊎-elim (λ (e : _≡_ {A = ℕ} 0 1). omega arith) (λ (e : _≡_ {A = ℕ} 0 2). omega arith) t)
+    go (Stored b _) t = absurd (⊎-elim (λ (e : _≡_ {A = ℕ} 0 1). omega arith) (λ (e : _≡_ {A = ℕ} 0 2). omega arith) t)
     go (NanOrInf v) t = tt
     go (OutOfRange v lo hi) t = tt
     go (FloatOutOfRange v lo hi) t = tt

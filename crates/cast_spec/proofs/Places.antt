@@ -23,7 +23,7 @@ module _ (o : ℕ → Outcome) (w : ℕ) where
   later a (suc n) h = go (o a) (later (suc a) n) h
     where
       go : (x : Outcome) → (5 ≤ numberOf (answerFrom o (suc a) n) → suc a ≤ positionOf (answerFrom o (suc a) n)) → 5 ≤ numberOf (answerNext x a (answerFrom o (suc a) n)) → a ≤ positionOf (answerNext x a (answerFrom o (suc a) n))
-      go (Stored b) f h = omega (arith, f h)
+      go (Stored b _) f h = omega (arith, f h)
       go (NanOrInf v) f h = omega arith
       go (OutOfRange v lo hi) f h = omega arith
       go (FloatOutOfRange v lo hi) f h = omega arith
@@ -33,7 +33,7 @@ module _ (o : ℕ → Outcome) (w : ℕ) where
   here k a n d fit = go (o a)
     where
       go : (x : Outcome) → Served k (answerNext x a (answerFrom o (suc a) n)) (valueOf k (patternAt w (bytesNext x w d (bytesFrom o w (suc a) n (drop w d))) 0)) a x
-      go (Stored b) = (
+      go (Stored b _) = (
         λ h e. omega (arith, later (suc a) n h),
         λ (l : b < 2 ^ bits k). ap (valueOf k) (first-place w b (bytesFrom o w (suc a) n (drop w d)) ∙ ap (λ (z : ℕ). b % z) fit ∙ mod-eq-of-lt l),
       )
@@ -53,7 +53,7 @@ module _ (o : ℕ → Outcome) (w : ℕ) where
 
       go : (x : Outcome) → (Refuses x → ⊥) → Served k (answerFrom o (suc a) n) (valueOf k (patternAt w (bytesFrom o w (suc a) n (drop w d)) i)) (a + suc i) (o (a + suc i))
           → Served k (answerNext x a (answerFrom o (suc a) n)) (valueOf k (patternAt w (bytesNext x w d (bytesFrom o w (suc a) n (drop w d))) (suc i))) (a + suc i) (o (a + suc i))
-      go (Stored b) free f = subst (λ (z : ℕ). Served k (answerFrom o (suc a) n) (valueOf k z) (a + suc i) (o (a + suc i))) (sym (next-place w b i (bytesFrom o w (suc a) n (drop w d)))) f
+      go (Stored b _) free f = subst (λ (z : ℕ). Served k (answerFrom o (suc a) n) (valueOf k z) (a + suc i) (o (a + suc i))) (sym (next-place w b i (bytesFrom o w (suc a) n (drop w d)))) f
       go (NanOrInf v) free f = absurd (free tt)
       go (OutOfRange v lo hi) free f = absurd (free tt)
       go (FloatOutOfRange v lo hi) free f = absurd (free tt)

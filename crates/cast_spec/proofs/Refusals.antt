@@ -4,27 +4,30 @@ use mathlib.Core.Bool.{true, false}
 use Prim.Native.Nat.{_/_}
 use lib.ListN.{length}
 use borrow.Author.Tests.{ne-eqb}
+use Rattle.kinds.specs.Counts.{unconverted}
 use Rattle.kinds.specs.declared.Answer.the-variants as A
-use Rattle.cast_spec.specs.Chunk.{Inputs, sw, dw, codesListed, mapWhole, bytesWhole, callOf, answerOf, destinationOf}
+use Rattle.cast_spec.specs.Chunk.{Inputs, sw, dw, codesListed, mapWhole, bytesWhole, callOf, answerOf, countsOf, destinationOf}
 use Rattle.cast_spec.specs.Contract.{Contract}
 use Rattle.cast_spec.proofs.Contract.{contract}
 
 module _ (I : Inputs) where
-  pub unknown : codesListed I ≡ false → Contract I A.UnknownCode (I .destination)
-  unfolding answerOf destinationOf callOf
-  unknown a = contract I A.UnknownCode (I .destination) (simp a) (simp a)
+  pub unknown : codesListed I ≡ false → Contract I (unconverted A.UnknownCode) (I .destination)
+  unfolding answerOf countsOf destinationOf callOf
+  unknown a = contract I (unconverted A.UnknownCode) (I .destination) (simp a) (simp a) (simp a)
 
   module _ (a : codesListed I ≡ true) where
-    pub broken-map : mapWhole I ≡ false → Contract I A.BrokenMap (I .destination)
-    unfolding answerOf destinationOf callOf
-    broken-map b = contract I A.BrokenMap (I .destination) (simp (a, b)) (simp (a, b))
+    pub broken-map : mapWhole I ≡ false → Contract I (unconverted A.BrokenMap) (I .destination)
+    unfolding answerOf countsOf destinationOf callOf
+    broken-map b = contract I (unconverted A.BrokenMap) (I .destination) (simp (a, b)) (simp (a, b)) (simp (a, b))
 
     module _ (b : mapWhole I ≡ true) where
-      pub broken-element : bytesWhole I ≡ false → Contract I A.BrokenElement (I .destination)
-      unfolding answerOf destinationOf callOf
-      broken-element c = contract I A.BrokenElement (I .destination) (simp (a, b, c)) (simp (a, b, c))
+      pub broken-element : bytesWhole I ≡ false → Contract I (unconverted A.BrokenElement) (I .destination)
+      unfolding answerOf countsOf destinationOf callOf
+      broken-element c = contract I (unconverted A.BrokenElement) (I .destination) (simp (a, b, c)) (simp (a, b, c)) (simp (a, b, c))
 
       module _ (c : bytesWhole I ≡ true) where
-        pub mismatch : (length (I .source) / sw I ≡ length (I .destination) / dw I → ⊥) → Contract I (A.LengthMismatch (length (I .source) / sw I) (length (I .destination) / dw I)) (I .destination)
-        unfolding answerOf destinationOf callOf
-        mismatch n = let d = ne-eqb (length (I .source) / sw I) (length (I .destination) / dw I) n in contract I _ (I .destination) (simp (a, b, c, d)) (simp (a, b, c, d))
+        pub mismatch : (length (I .source) / sw I ≡ length (I .destination) / dw I → ⊥) → Contract I (unconverted (A.LengthMismatch (length (I .source) / sw I) (length (I .destination) / dw I))) (I .destination)
+        unfolding answerOf countsOf destinationOf callOf
+        mismatch n =
+            let d = ne-eqb (length (I .source) / sw I) (length (I .destination) / dw I) n in
+            contract I (unconverted (A.LengthMismatch (length (I .source) / sw I) (length (I .destination) / dw I))) (I .destination) (simp (a, b, c, d)) (simp (a, b, c, d)) (simp (a, b, c, d))

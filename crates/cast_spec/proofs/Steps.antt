@@ -36,7 +36,7 @@ no-match k x (e ∷ es) h = go (valueOf k (e .key)) (h e (List·Memᴰ·head ref
 
 -- ---- the steps of a finite element that no entry matches
 pub outcome-is : (S : Settings) (b : ℕ) (x : ℤ) → valueOf (S .from) b ≡ num x → ((e : Entry) → List·Memᴰ e (S .entries) → valueOf (S .from) (e .key) ≡ num x → ⊥)
-    → outcomeOf S b ≡ ranged (S .to) (S .range) (asF64 (S .from) b) (negative (S .from) b) (pick (gridOf (S .to)) (S .rule) x)
+    → outcomeOf S b ≡ ranged (S .to) (S .range) (asF64 (S .from) b) (negative (S .from) b) x (pick (gridOf (S .to)) (S .rule) x)
 unfolding outcomeOf
 outcome-is S b x e h =
     ap {B = Outcome} (λ (v : Value). foundOr (lookupOf (S .from) v (S .entries)) (converted S b (S .to) v)) e

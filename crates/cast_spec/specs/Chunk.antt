@@ -1,5 +1,5 @@
 -- To be believed: the chunk call over its inputs alone: the checks, the answer, and every byte of the destination.
-use mathlib.Core.Bool.{Bool, _&&_, cond}
+use mathlib.Core.Bool.{Bool, false, _&&_, cond}
 use mathlib.Core.List.{List, [], _∷_, _++_}
 use Prim.Native.Nat.{ℕ, zero, suc, _/_, _%_, _<_}
 use lib.Dec.{T, eqb, ltb}
@@ -8,6 +8,10 @@ use Rattle.bytes_le.specs.Bytes.{toLe, patternAt}
 use Rattle.patterns.specs.Kind.{width}
 use Rattle.patterns.specs.Value.{Value, valueOf}
 use Rattle.kinds.specs.Codes.{kindOf, roundingOf, rangeOf}
+use Rattle.kinds.specs.Counts.{placeOf}
+use Rattle.kinds.specs.declared.Counts.{Counts}
+use Rattle.kinds.specs.declared.Fared.{Fared}
+use Rattle.kinds.specs.declared.Fared.the-variants.{Mapped, Exact, Rounded, Clamped, Wrapped}
 use Rattle.kinds.specs.declared.Outcome.{Outcome}
 use Rattle.kinds.specs.declared.Outcome.the-variants.{Stored, NanOrInf, OutOfRange, FloatOutOfRange}
 use Rattle.kinds.specs.declared.Answer.{Answer}
@@ -88,7 +92,7 @@ unfoldable pub outcomeAt : Call → ℕ → Outcome
 outcomeAt c i = outcomeOf (c .settings) (c .element i)
 
 abbrev pub Refuses : Outcome → Type 0
-Refuses (Stored b) = ⊥
+Refuses (Stored b f) = ⊥
 Refuses (NanOrInf v) = Unit {0}
 Refuses (OutOfRange v lo hi) = Unit {0}
 Refuses (FloatOutOfRange v lo hi) = Unit {0}
@@ -104,7 +108,7 @@ pub record Reached (c : Call) (i : ℕ) : Type 0 where
 
 -- a refusal at i, or the answer of the rest
 abbrev pub answerNext : Outcome → ℕ → Answer → Answer
-answerNext (Stored b) i rest = rest
+answerNext (Stored b f) i rest = rest
 answerNext (NanOrInf v) i rest = A.NanOrInf i v
 answerNext (OutOfRange v lo hi) i rest = A.OutOfRange i v lo hi
 answerNext (FloatOutOfRange v lo hi) i rest = A.FloatOutOfRange i v lo hi
@@ -128,7 +132,7 @@ answerOf I =
 
 -- d is what stands from here on, and rest what then follows a stored element
 abbrev pub bytesNext : Outcome → ℕ → List ℕ → List ℕ → List ℕ
-bytesNext (Stored b) w d rest = toLe w b ++ rest
+bytesNext (Stored b f) w d rest = toLe w b ++ rest
 bytesNext (NanOrInf v) w d rest = d
 bytesNext (OutOfRange v lo hi) w d rest = d
 bytesNext (FloatOutOfRange v lo hi) w d rest = d
@@ -141,6 +145,37 @@ bytesFrom o w i (suc n) d = bytesNext (o i) w d (bytesFrom o w (suc i) n (drop w
 -- "Refusals 1 to 4 leave the destination untouched."
 unfoldable pub destinationOf : Inputs → List ℕ
 destinationOf I = cond (callOf I .passed) (bytesFrom (outcomeAt (callOf I)) (dw I) 0 (callOf I .count) (I .destination)) (I .destination)
+
+-- ---- the counts: "The answer gains five counts", of the elements that are converted
+
+-- "Their sum is the number of elements converted, also when a refusal ends the chunk": of n elements all, those before the refused one, or none
+abbrev pub convertedOf : ℕ → Answer → ℕ
+convertedOf n A.Converted = n
+convertedOf n A.UnknownCode = 0
+convertedOf n A.BrokenMap = 0
+convertedOf n A.BrokenElement = 0
+convertedOf n (A.LengthMismatch s d) = 0
+convertedOf n (A.NanOrInf i v) = i
+convertedOf n (A.OutOfRange i v lo hi) = i
+convertedOf n (A.FloatOutOfRange i v lo hi) = i
+
+-- whether an element is stored that fared as f
+abbrev pub faredAs : Fared → Outcome → Bool
+faredAs f (Stored b g) = eqb (placeOf f) (placeOf g)
+faredAs f (NanOrInf v) = false
+faredAs f (OutOfRange v lo hi) = false
+faredAs f (FloatOutOfRange v lo hi) = false
+
+-- how many are, of the positions below n
+abbrev pub countBelow : (ℕ → Outcome) → Fared → ℕ → ℕ
+countBelow o f zero = 0
+countBelow o f (suc n) = cond (faredAs f (o n)) (suc (countBelow o f n)) (countBelow o f n)
+
+abbrev pub countsBelow : (ℕ → Outcome) → ℕ → Counts
+countsBelow o n = record { mapped = countBelow o Mapped n; exact = countBelow o Exact n; rounded = countBelow o Rounded n; clamped = countBelow o Clamped n; wrapped = countBelow o Wrapped n }
+
+unfoldable pub countsOf : Inputs → Counts
+countsOf I = countsBelow (outcomeAt (callOf I)) (convertedOf (callOf I .count) (answerOf I))
 
 -- "the number that its place in the destination holds": of the position i of a destination d
 unfoldable pub resultAt : Inputs → List ℕ → ℕ → Value

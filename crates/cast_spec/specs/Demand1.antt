@@ -7,6 +7,7 @@ use Prim.Native.Nat.{ℕ, _*_, _/_, _%_, _^_, _≤_, _<_}
 use lib.ListN.{length, drop}
 use Rattle.bytes_le.specs.Bytes.{patternAt}
 use Rattle.kinds.specs.Answer.{numberOf, noValues, bothCounts, valuesOf, positionOf, outcomeNumber, outcomeValues}
+use Rattle.kinds.specs.declared.Fared.{Fared}
 use Rattle.kinds.specs.declared.Outcome.the-variants.{Stored}
 use Rattle.kinds.specs.declared.Answer.{Answer}
 use Rattle.cast_spec.specs.Chunk.{Inputs, callOf, outcomeAt, Reached, sw, dw, codesListed, mapWhole, bytesWhole, countsMeet}
@@ -14,7 +15,8 @@ use Rattle.cast_spec.specs.Chunk.{Inputs, callOf, outcomeAt, Reached, sw
 -- the element at i is converted: its steps store the pattern that its place in d holds
 pub record ConvertedTo (I : Inputs) (d : List ℕ) (i : ℕ) : Type 0 where
   pub pattern : ℕ
-  pub outcome : outcomeAt (callOf I) i ≡ Stored pattern
+  pub fared : Fared
+  pub outcome : outcomeAt (callOf I) i ≡ Stored pattern fared
   pub stored : patternAt (dw I) d i ≡ pattern % 256 ^ dw I
 
 pub record Demand1 (I : Inputs) (r : Answer) (d : List ℕ) : Type 0 where

@@ -5,10 +5,13 @@ use Prim.Native.Nat.{ℕ, _-_}
 use lib.IntN.{ℤ}
 use lib.Signed.{ltZ, leZ}
 use Rattle.grid.specs.Round.{pick}
+use Rattle.grid.specs.Ternary.{ternaryOf}
 use Rattle.grid.specs.declared.RoundingMode.{RoundingMode}
 use Rattle.patterns.specs.Kind.{Kind, integer, binary, gridOf, lowInt, highInt, lowest, highest}
 use Rattle.patterns.specs.Value.{Value, nan, inf, num, negative, valueOf}
 use Rattle.patterns.specs.Pattern.{patternOf, infinity, nanPattern, asF64}
+use Rattle.kinds.specs.Counts.{byPick}
+use Rattle.kinds.specs.declared.Fared.the-variants.{Mapped, Exact, Clamped, Wrapped}
 use Rattle.kinds.specs.declared.OutOfRangeMode.{OutOfRangeMode}
 use Rattle.kinds.specs.declared.OutOfRangeMode.the-variants.{None, Clamp, Wrap}
 use Rattle.kinds.specs.declared.Lookup.{Lookup}
@@ -49,7 +52,7 @@ lookupOf k v (e ∷ es) = cond (matches v (valueOf k (e .key))) (Found (e .targe
 
 -- "The target is handed out unchanged and is not range-checked." o is the outcome where no entry matches
 abbrev pub foundOr : Lookup → Outcome → Outcome
-foundOr (Found t) o = Stored t
+foundOr (Found t) o = Stored t Mapped
 foundOr Missing o = o
 
 -- ---- range
@@ -71,25 +74,25 @@ overrun k p w v = FloatOutOfRange v (asF64 k (infinity p w true - 1)) (asF64 k (
 -- A float's clamp "gives the infinity of the element's sign".
 unfoldable pub beyond : Kind → OutOfRangeMode → ℕ → Bool → ℤ → Outcome
 beyond (integer s n) None v neg y = OutOfRange v (lowInt s n) (highInt s n)
-beyond (integer s n) Clamp v neg y = Stored (patternOf (integer s n) neg (nearerEnd (integer s n) y))
-beyond (integer s n) Wrap v neg y = Stored (patternOf (integer s n) neg y)
+beyond (integer s n) Clamp v neg y = Stored (patternOf (integer s n) neg (nearerEnd (integer s n) y)) Clamped
+beyond (integer s n) Wrap v neg y = Stored (patternOf (integer s n) neg y) Wrapped
 beyond (binary p w s) None v neg y = overrun (binary p w s) p w v
-beyond (binary p w s) Clamp v neg y = Stored (infinity p w neg)
+beyond (binary p w s) Clamp v neg y = Stored (infinity p w neg) Clamped
 beyond (binary p w s) Wrap v neg y = overrun (binary p w s) p w v
 
--- "a zero result keeps a float element's sign": neg is that of the element
-abbrev pub ranged : Kind → OutOfRangeMode → ℕ → Bool → ℤ → Outcome
-ranged k r v neg y = cond (inRange k y) (Stored (patternOf k neg y)) (beyond k r v neg y)
+-- the pick y of an element x. "a zero result keeps a float element's sign": neg is that of the element
+abbrev pub ranged : Kind → OutOfRangeMode → ℕ → Bool → ℤ → ℤ → Outcome
+ranged k r v neg x y = cond (inRange k y) (Stored (patternOf k neg y) (byPick (ternaryOf x y))) (beyond k r v neg y)
 
 -- ---- the steps
 
--- an element of the pattern b and the value v that no entry matches; "infinities pass" to a float kind
+-- an element of the pattern b and the value v that no entry matches; "infinities pass" to a float kind, "a NaN or infinity carried to a float is exact"
 abbrev pub converted : Settings → ℕ → Kind → Value → Outcome
-converted S b k (num x) = ranged k (S .range) (asF64 (S .from) b) (negative (S .from) b) (pick (gridOf k) (S .rule) x)
+converted S b k (num x) = ranged k (S .range) (asF64 (S .from) b) (negative (S .from) b) x (pick (gridOf k) (S .rule) x)
 converted S b (integer s n) (inf neg) = NanOrInf (asF64 (S .from) b)
 converted S b (integer s n) nan = NanOrInf (asF64 (S .from) b)
-converted S b (binary p w s) (inf neg) = Stored (infinity p w neg)
-converted S b (binary p w s) nan = Stored (nanPattern (S .from) p w b)
+converted S b (binary p w s) (inf neg) = Stored (infinity p w neg) Exact
+converted S b (binary p w s) nan = Stored (nanPattern (S .from) p w b) Exact
 
 unfoldable pub outcomeOf : Settings → ℕ → Outcome
 outcomeOf S b = let v = valueOf (S .from) b in foundOr (lookupOf (S .from) v (S .entries)) (converted S b (S .to) v)

@@ -16,14 +16,14 @@ use Rattle.cast_spec.specs.Element.{converted, overrun, ranged}
 
 -- an outcome without its value and ends
 abbrev pub fitOf : Outcome → Fit
-fitOf (O.Stored b) = Pattern b
+fitOf (O.Stored b f) = Pattern b f
 fitOf (O.NanOrInf v) = NotFinite
 fitOf (O.OutOfRange v lo hi) = OutOfRange
 fitOf (O.FloatOutOfRange v lo hi) = OutOfRange
 
 -- a number x of the sign neg; no fit has the value that stands as 0 here
 abbrev pub fitNumber : Kind → RoundingMode → OutOfRangeMode → Bool → ℤ → Fit
-fitNumber k rule range neg x = fitOf (ranged k range 0 neg (pick (gridOf k) rule x))
+fitNumber k rule range neg x = fitOf (ranged k range 0 neg x (pick (gridOf k) rule x))
 
 -- the outcome of an element that no entry matches
 abbrev pub unmapped : Kind → Kind → RoundingMode → OutOfRangeMode → ℕ → Outcome
@@ -36,6 +36,6 @@ pastRange (binary p w s) v = overrun (binary p w s) p w v
 
 -- a fit with the fields of its refusal
 abbrev pub filled : Kind → ℕ → Fit → Outcome
-filled k v (Pattern b) = O.Stored b
+filled k v (Pattern b f) = O.Stored b f
 filled k v NotFinite = O.NanOrInf v
 filled k v OutOfRange = pastRange k v

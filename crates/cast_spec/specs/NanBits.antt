@@ -10,7 +10,8 @@ use Rattle.patterns.specs.Value.{nan, valueOf}
 use Rattle.kinds.specs.Codes.{kindOf}
 use Rattle.kinds.specs.declared.Answer.{Answer}
 use Rattle.kinds.specs.declared.Answer.the-variants as A
-use Rattle.cast_spec.specs.Chunk.{Inputs, inputs, sw, dw, answerOf, destinationOf}
+use Rattle.kinds.specs.declared.Reply.{Reply}
+use Rattle.cast_spec.specs.Chunk.{Inputs, inputs, sw, dw, answerOf, countsOf, destinationOf}
 
 -- two patterns of a kind stand for one element: they are equal, or each is a NaN's
 abbrev pub Alike : Kind → ℕ → ℕ → Type 0
@@ -41,7 +42,8 @@ pub record BothNan (r a : Answer) : Type 0 where
 abbrev pub SameAnswer : Answer → Answer → Type 0
 SameAnswer r a = (r ≡ a) ⊎ BothNan r a
 
--- an answer r and a destination d as those of J, but for the value of a refused NaN and the patterns of NaNs in the destination
-pub record SameButNans (J : Inputs) (r : Answer) (d : List ℕ) : Type 0 where
-  pub answer : SameAnswer r (answerOf J)
+-- what is returned and a destination d as those of J, but for the value of a refused NaN and the patterns of NaNs in the destination
+pub record SameButNans (J : Inputs) (r : Reply) (d : List ℕ) : Type 0 where
+  pub answer : SameAnswer (r .answer) (answerOf J)
+  pub counts : r .counts ≡ countsOf J
   pub destination : AlikeBytes (kindOf (J .to)) (dw J) d (destinationOf J)

@@ -1,14 +1,14 @@
 -- The settings of a call whose codes are listed, and the run over all its positions.
 use mathlib.Core.Path.{_≡_, refl, sym, ap, ap₂, subst, _∙_}
 use mathlib.Core.Bool.{Bool, true, false, _&&_}
-use mathlib.Core.List.{List, _++_}
-use Prim.Native.Nat.{ℕ, _/_, _<_, _+_, _*_, _%_, _-_}
-use native.Mathlib.Nat.{add-zero, div-add-mod', le-of-eq, sub-zero, zero-mul}
+use mathlib.Core.List.{List}
+use Prim.Native.Nat.{ℕ, _/_, _<_, _+_, _*_, _%_}
+use native.Mathlib.Nat.{add-zero, div-add-mod', le-of-eq}
 use native.Mathlib.Omega.{arith}
 use lib.Dec.{ltb, eqb}
-use lib.ListN.{length, take, drop}
+use lib.ListN.{length}
 use borrow.Author.Tests.{ltb-true, eq-eqb, eqb-true}
-use Rattle.cast_spec.specs.Chunk.{Inputs, sw, dw, codesListed, mapWhole, bytesWhole, callOf, answerOf, destinationOf, countsMeet, outcomeAt, settingsOf, answerFrom, bytesFrom}
+use Rattle.cast_spec.specs.Chunk.{Inputs, sw, dw, codesListed, mapWhole, bytesWhole, callOf, answerOf, countsOf, destinationOf, countsMeet, outcomeAt, settingsOf, answerFrom, bytesFrom, convertedOf, countsBelow}
 use Rattle.cast_spec.specs.Contract.{Contract}
 use Rattle.cast_spec.proofs.Contract.{contract}
 use Rattle.kinds.specs.Codes.{kindOf, rangeOf, roundingOf}
@@ -16,6 +16,7 @@ use Rattle.chunk_element.specs.declared.Settings.{Settings}
 use Rattle.chunk_element.specs.Settings.{MapReady, Ready, settingsFor}
 use Rattle.chunk.specs.Run.{RunReady, outcomes, settingsBy, Ran}
 use Rattle.kinds.specs.declared.Answer.{Answer}
+use Rattle.kinds.specs.declared.Reply.{Reply}
 use Rattle.kinds.specs.declared.KindRow.{KindRow}
 use Rattle.kinds.specs.declared.OutOfRangeMode.{OutOfRangeMode}
 use Rattle.grid.specs.declared.RoundingMode.{RoundingMode}
@@ -26,7 +27,6 @@ use Rattle.cast_spec.specs.Element as E
 use Rattle.cast_spec.proofs.Widths.{listed-width, width-bits}
 use Rattle.routes.specs.declared.Route.{Route}
 use Rattle.routes.specs.Route.{routeOf}
-use Rattle.kinds.specs.declared.Answer.the-variants as A
 
 -- ---- the settings that a program puts together
 pub settings-are : (from to rounding range keys : ℕ) (k : Route) (x y : KindRow) (r : RoundingMode) (g : OutOfRangeMode) → k ≡ routeOf (x .format) (y .format) → x ≡ rowOf (kindOf from) → y ≡ rowOf (kindOf to) → r ≡ roundingOf rounding → g ≡ rangeOf range
@@ -96,10 +96,9 @@ module _ (I : Inputs) (a : codesListed I ≡ true) (b : mapWhole I ≡ true) (c 
   unfolding settingsOf
   settings-same = ap₂ {C = E.Settings} (λ (j k : Kind). record { from = j; to = k; rule = roundingOf (I .rounding); range = rangeOf (I .range); entries = settingsFor s (I .keys) (I .targets) .entries }) (kind-back (I .from) (codes .0)) (kind-back (I .to) (codes .1))
 
-  pub run-asks : RunReady s (I .keys) (I .targets) (I .source) (I .destination) 0 n
+  pub run-asks : RunReady s (I .keys) (I .targets) (I .source) (I .destination) n
   run-asks = record {
     map = map-ready;
-    order = omega arith;
     source = le-of-eq (whole-length (length (I .source)) (sw I) (eqb-true _ _ (and-left _ _ c)));
     target = le-of-eq (ap (λ (z : ℕ). z * dw I) meet ∙ whole-length (length (I .destination)) (dw I) (eqb-true _ _ (and-right (eqb (length (I .source) % sw I) 0) _ c)));
   }
@@ -115,13 +114,12 @@ module _ (I : Inputs) (a : codesListed I ≡ true) (b : mapWhole I ≡ true) (c 
   unfolding destinationOf outcomeAt callOf
   bytes-are = sym (simp (a, b, c, met))
 
-  whole : (r : Answer) (d : List ℕ) → Ran (settingsOf I) (sw I) (dw I) (I .source) (I .destination) 0 n r d → Contract I r d
-  whole r d R = contract I r d
-      (R .answer ∙ ap (answerFrom (outcomes (settingsOf I) (sw I) (I .source)) 0) (sub-zero n) ∙ answer-is)
-      (R .bytes
-      ∙ ap (λ (z : ℕ). take z (I .destination) ++ bytesFrom (outcomes (settingsOf I) (sw I) (I .source)) (dw I) 0 (n - 0) (drop z (I .destination))) (zero-mul (dw I))
-      ∙ ap (λ (z : ℕ). bytesFrom (outcomes (settingsOf I) (sw I) (I .source)) (dw I) 0 z (I .destination)) (sub-zero n)
-      ∙ bytes-are)
+  converted-is : (r : Answer) → r ≡ answerOf I → countsBelow (outcomes (settingsOf I) (sw I) (I .source)) (convertedOf n r) ≡ countsOf I
+  unfolding countsOf outcomeAt callOf
+  converted-is r e = ap (λ (a : Answer). countsBelow (outcomes (settingsOf I) (sw I) (I .source)) (convertedOf n a)) e
 
-  pub run-whole : (r : Answer) (d : List ℕ) → Ran (settingsFor s (I .keys) (I .targets)) (sw I) (dw I) (I .source) (I .destination) 0 n r d → Contract I r d
-  run-whole r d R = whole r d (subst (λ (S : E.Settings). Ran S (sw I) (dw I) (I .source) (I .destination) 0 n r d) settings-same R)
+  whole : (r : Reply) (d : List ℕ) → Ran (settingsOf I) (sw I) (dw I) (I .source) (I .destination) n r d → Contract I r d
+  whole r d R = let e = R .answer ∙ answer-is in contract I r d e (R .counts ∙ converted-is (r .answer) e) (R .bytes ∙ bytes-are)
+
+  pub run-whole : (r : Reply) (d : List ℕ) → Ran (settingsFor s (I .keys) (I .targets)) (sw I) (dw I) (I .source) (I .destination) n r d → Contract I r d
+  run-whole r d R = whole r d (subst (λ (S : E.Settings). Ran S (sw I) (dw I) (I .source) (I .destination) n r d) settings-same R)

@@ -1,24 +1,30 @@
 -- The loop of a run: what holds at each position, and how a turn keeps it.
 use mathlib.Core.Path.{_≡_, refl, sym, ap, subst, _∙_}
 use mathlib.Core.List.{List, _++_}
-use Prim.Native.Nat.{ℕ, _+_, _-_, _*_, _≤_, _<_}
-use native.Mathlib.Nat.{le-of-eq, le-trans, mul-le-mul-right, suc-mul}
+use Prim.Native.Nat.{ℕ, _+_, _-_, _*_, _^_, _≤_, _<_}
+use native.Mathlib.Nat.{le-of-eq, le-trans, mul-le-mul-right, sub-zero, suc-mul, zero-mul}
 use native.Mathlib.Numerals.{add-one}
 use native.Mathlib.Omega.{arith}
-use lib.ListN.{length-append, length-drop, length-take, length, take, drop}
+use lib.ListN.{length-append, length-drop, length-set, length-take, length, take, drop}
 use lib.Seq.{drop-drop}
 use Rattle.cast_spec.specs.Element.{outcomeOf}
 use Rattle.chunk_element.specs.declared.Settings.{Settings}
-use Rattle.cast_spec.proofs.Runs.{Run}
+use Rattle.cast_spec.proofs.Runs.{Run, one-more, count-le, refused-converted}
+use Rattle.kinds.specs.Counts.{placeOf, countOf, countsIn}
+use Rattle.kinds.specs.Tally.{noTally, counted, oneMoreAt, CountableAt}
+use Rattle.kinds.proofs.Tallies as tallies
+use Rattle.kinds.specs.declared.Counts.{Counts}
+use Rattle.kinds.specs.declared.Fared.{Fared}
 use Rattle.kinds.specs.declared.Answer.{Answer}
 use Rattle.chunk_element.specs.Settings.{settingsFor}
 use Rattle.chunk_element.specs.Place.{ConvertedAt, PlaceReady, refusedAnswer, storedAt}
-use Rattle.chunk.specs.Run.{RunReady, outcomes}
+use Rattle.chunk.specs.Run.{RunReady, Ran, outcomes}
 use Rattle.kinds.specs.declared.Outcome.{Outcome}
+use Rattle.kinds.specs.declared.Outcome.the-variants.{Stored}
 use Rattle.kinds.specs.declared.Fit.{Fit}
 use Rattle.kinds.specs.declared.Fit.the-variants.{Pattern}
 use Rattle.cast_spec.specs.Fit.{fitOf}
-use Rattle.cast_spec.specs.Chunk.{answerFrom, answerNext, bytesFrom, Refuses}
+use Rattle.cast_spec.specs.Chunk.{answerFrom, answerNext, bytesFrom, convertedOf, countsBelow, Refuses}
 use Rattle.bytes_le.specs.Bytes.{fromLe, patternAt, toLe, put}
 use Rattle.bytes_le.proofs.Sums.{length-toLe}
 use Rattle.cast_spec.proofs.Outcomes.{stored-pattern}
@@ -27,66 +33,108 @@ use Rattle.kinds.specs.declared.Answer.the-variants as A
 use Rattle.cast_spec.specs.Element as E
 use Rattle.cast_spec.proofs.Runs as runs
 
-module _ (S : E.Settings) (sw dw : ℕ) (src dst₀ : List ℕ) (a e : ℕ) where
+module _ (S : E.Settings) (sw dw : ℕ) (src dst₀ : List ℕ) (n : ℕ) where
+  abbrev o : ℕ → Outcome
+  o = outcomes S sw src
+
   abbrev pub finalAnswer : Answer
-  finalAnswer = answerFrom (outcomes S sw src) a (e - a)
+  finalAnswer = answerFrom (outcomes S sw src) 0 n
 
   abbrev pub finalBytes : List ℕ
-  finalBytes = take (a * dw) dst₀ ++ bytesFrom (outcomes S sw src) dw a (e - a) (drop (a * dw) dst₀)
+  finalBytes = bytesFrom (outcomes S sw src) dw 0 n dst₀
 
-  -- before the position i, at the places x of the source and y of the destination dst
-  pub record At (i x y : ℕ) (dst : List ℕ) : Type 0 where
-    pub order : i ≤ e
+  -- before the position i, at the places x of the source and y of the destination dst; the tally t lacks the last element before i, which counts at the place k
+  pub record At (i x y : ℕ) (dst t : List ℕ) (k : ℕ) : Type 0 where
+    pub order : i ≤ n
     pub source : x ≡ i * sw
     pub target : y ≡ i * dw
     pub same : length dst ≡ length dst₀
-    pub run : Run (outcomes S sw src) dw e finalAnswer finalBytes i dst
+    pub countable : CountableAt k t
+    pub counts : countsIn (oneMoreAt k t) ≡ countsBelow (outcomes S sw src) i
+    pub run : Run (outcomes S sw src) dw n finalAnswer finalBytes i dst
 
-  pub starts : a ≤ e → At a (a * sw) (a * dw) dst₀
-  starts h = record { order = h; source = refl; target = refl; same = refl; run = record { answer = refl; bytes = refl } }
+  pub starts : (t : List ℕ) → t ≡ noTally → At 0 0 0 dst₀ t 5
+  starts t none = record {
+    order = omega arith;
+    source = sym (zero-mul sw);
+    target = sym (zero-mul dw);
+    same = refl;
+    countable = subst (CountableAt 5) (sym none) (record { six = refl; place = omega arith; room = omega arith });
+    counts = ap (λ (z : List ℕ). countsIn (oneMoreAt 5 z)) none;
+    run = record {
+      answer = ap (answerFrom o 0) (sym (sub-zero n));
+      bytes = ap (λ (k : ℕ). bytesFrom o dw 0 k dst₀) (sym (sub-zero n)) ∙ ap (λ (z : ℕ). take z dst₀ ++ bytesFrom o dw 0 (n - 0) (drop z dst₀)) (sym (zero-mul dw));
+    };
+  }
 
-  module _ (i x y : ℕ) (dst : List ℕ) (at : At i x y dst) where
-    pub ends : e ≤ i → (A.Converted ≡ finalAnswer) × (dst ≡ finalBytes)
-    ends h = runs.done (outcomes S sw src) dw e finalAnswer finalBytes i dst (at .run) (omega (arith, at .order))
+  -- t′ is the tally with that element
+  module _ (i x y : ℕ) (dst t : List ℕ) (k : ℕ) (at : At i x y dst t k) (t′ : List ℕ) (all : t′ ≡ oneMoreAt k t) where
+    counted-below : countsIn t′ ≡ countsBelow (outcomes S sw src) i
+    counted-below = ap countsIn all ∙ at .counts
 
-    module _ (more : i < e) (room : e * dw ≤ length dst₀) (r : Fit) (dst′ : List ℕ) (c : ConvertedAt S sw dw src dst x y r dst′) where
+    -- so many are counted as the answer says are converted
+    counts-of : (r : Answer) → convertedOf n r ≡ i → (c : Counts) → c ≡ countsIn t′ → c ≡ countsBelow (outcomes S sw src) (convertedOf n r)
+    counts-of r e c is = is ∙ counted-below ∙ ap (countsBelow o) (sym e)
+
+    pub ends : n ≤ i → (c : Counts) → c ≡ countsIn t′ → Ran S sw dw src dst₀ n (record { answer = A.Converted; counts = c }) dst
+    ends h c is =
+        let e : i ≡ n = omega (arith, at .order) in
+        let d = runs.done o dw n finalAnswer finalBytes i dst (at .run) e in
+        record { answer = d .0; counts = counts-of A.Converted (sym e) c is; bytes = d .1 }
+
+    module _ (more : i < n) (room : n * dw ≤ length dst₀) (r : Fit) (dst′ : List ℕ) (c : ConvertedAt S sw dw src dst x y r dst′) where
       abbrev outcome : Outcome
       outcome = outcomes S sw src i
 
       pub fit-is : r ≡ fitOf (outcomes S sw src i)
       fit-is = c .fit ∙ ap (λ (z : ℕ). fitOf (outcomeOf S (fromLe (take sw (drop z src))))) (at .source)
 
-      pub stops : Refuses (outcomes S sw src i) → (answerNext (outcomes S sw src i) i A.Converted ≡ finalAnswer) × (dst′ ≡ finalBytes)
-      stops f =
-          let g = runs.refused (outcomes S sw src) dw e finalAnswer finalBytes i dst (at .run) more f in
-          (sym (g .0), c .bytes ∙ ap (λ (z : Fit). storedAt z dst y dw) fit-is ∙ sym (not-stored outcome dst y dw f) ∙ g .1)
+      pub stops : Refuses (outcomes S sw src i) → (a : Answer) → a ≡ answerNext (outcomes S sw src i) i A.Converted → (j : Counts) → j ≡ countsIn t′ → Ran S sw dw src dst₀ n (record { answer = a; counts = j }) dst′
+      stops f a e j is =
+          let g = runs.refused o dw n finalAnswer finalBytes i dst (at .run) more f in record {
+            answer = e ∙ sym (g .0);
+            counts = counts-of a (ap (convertedOf n) e ∙ refused-converted n i outcome f) j is;
+            bytes = c .bytes ∙ ap (λ (z : Fit). storedAt z dst y dw) fit-is ∙ sym (not-stored outcome dst y dw f) ∙ g .1;
+          }
 
       within : i * dw + dw ≤ length dst
       within = subst (λ (z : ℕ). i * dw + dw ≤ z) (sym (at .same)) (le-trans (le-trans (le-of-eq (sym (suc-mul i dw))) (mul-le-mul-right dw more)) room)
 
-      stored-at : (b : ℕ) → r ≡ Pattern b → dst′ ≡ take (i * dw) dst ++ (toLe dw b ++ drop dw (drop (i * dw) dst))
-      stored-at b f =
-          c .bytes ∙ ap (λ (z : Fit). storedAt z dst y dw) f ∙ ap (λ (z : ℕ). put dst z dw b) (at .target)
+      stored-at : (b : ℕ) (f : Fared) → r ≡ Pattern b f → dst′ ≡ take (i * dw) dst ++ (toLe dw b ++ drop dw (drop (i * dw) dst))
+      stored-at b f e =
+          c .bytes ∙ ap (λ (z : Fit). storedAt z dst y dw) e ∙ ap (λ (z : ℕ). put dst z dw b) (at .target)
           ∙ ap (λ (l : List ℕ). take (i * dw) dst ++ (toLe dw b ++ l)) (sym (drop-drop dw (i * dw) dst))
 
-      same-after : (b : ℕ) → r ≡ Pattern b → length dst′ ≡ length dst
-      same-after b f = ap length (stored-at b f) ∙ simp (length-append, length-take, length-toLe, length-drop) (omega (arith, within))
+      same-after : (b : ℕ) (f : Fared) → r ≡ Pattern b f → length dst′ ≡ length dst
+      same-after b f e = ap length (stored-at b f e) ∙ simp (length-append, length-take, length-toLe, length-drop) (omega (arith, within))
 
-      pub goes-on : (b : ℕ) → r ≡ Pattern b → At (i + 1) (x + sw) (y + dw) dst′
-      goes-on b f = record {
+      pub goes-on : (b : ℕ) (f : Fared) → r ≡ Pattern b f → n < 2 ^ 64 → (k′ : ℕ) → k′ ≡ placeOf f → At (i + 1) (x + sw) (y + dw) dst′ t′ k′
+      goes-on b f e few k′ placed = record {
         order = omega arith;
         source = ap (λ (z : ℕ). z + sw) (at .source) ∙ next i sw;
         target = ap (λ (z : ℕ). z + dw) (at .target) ∙ next i dw;
-        same = same-after b f ∙ at .same;
-        run = rw add-one (runs.kept (outcomes S sw src) dw e finalAnswer finalBytes i dst (at .run) more b dst′ (stored-pattern outcome b (sym fit-is ∙ f)) within (stored-at b f));
+        same = same-after b f e ∙ at .same;
+        countable = subst (λ (z : ℕ). CountableAt z t′) (sym placed) (tallies.countable-at f t′ six room-after);
+        counts = ap (λ (z : ℕ). countsIn (oneMoreAt z t′)) placed ∙ tallies.one-more f t′ six ∙ ap (counted f) counted-below ∙ one-more o i b f is ∙ ap (countsBelow o) (sym (add-one i));
+        run = rw add-one (runs.kept o dw n finalAnswer finalBytes i dst (at .run) more b f dst′ is within (stored-at b f e));
       }
         where
           next : (i w : ℕ) → i * w + w ≡ (i + 1) * w
           next i w = omega arith
 
+          is : outcomes S sw src i ≡ Stored b f
+          is = stored-pattern outcome b f (sym fit-is ∙ e)
+
+          six : length t′ ≡ 6
+          six = ap length all ∙ length-set t k _ ∙ at .countable .six
+
+          -- a count is at most the elements that are done
+          room-after : countOf f (countsIn t′) + 1 < 2 ^ 64
+          room-after = subst (λ (z : Counts). countOf f z + 1 < 2 ^ 64) (sym counted-below) (omega (arith, count-le o f i))
+
 -- ---- what a turn asks, and that the places stay in the slices
-module _ (s : Settings) (keys targets src dst₀ : List ℕ) (a e : ℕ) (ask : RunReady s keys targets src dst₀ a e) (i x y : ℕ) (dst : List ℕ) (at : At (settingsFor s keys targets) (s .sw) (s .dw) src dst₀ a e i x y dst) (more : i < e) where
-  fit : (w l : ℕ) → e * w ≤ l → i * w + w ≤ l
+module _ (s : Settings) (keys targets src dst₀ : List ℕ) (n : ℕ) (ask : RunReady s keys targets src dst₀ n) (i x y : ℕ) (dst t : List ℕ) (k : ℕ) (at : At (settingsFor s keys targets) (s .sw) (s .dw) src dst₀ n i x y dst t k) (more : i < n) where
+  fit : (w l : ℕ) → n * w ≤ l → i * w + w ≤ l
   fit w l h = le-trans (le-of-eq (sym (suc-mul i w))) (le-trans (mul-le-mul-right w more) h)
 
   pub source-end : x + s .sw ≤ length src

@@ -1,17 +1,17 @@
 -- Internal: the settings of a call's codes, and a run of positions.
 use mathlib.Core.Path.{_≡_}
-use mathlib.Core.List.{List, _++_}
-use Prim.Native.Nat.{ℕ, _-_, _*_, _/_, _≤_}
-use lib.ListN.{length, take, drop}
+use mathlib.Core.List.{List}
+use Prim.Native.Nat.{ℕ, _*_, _/_, _≤_}
+use lib.ListN.{length}
 use Rattle.bytes_le.specs.Bytes.{patternAt}
 use Rattle.patterns.specs.Kind.{width}
 use Rattle.kinds.specs.Codes.{kindOf, roundingOf, rangeOf}
 use Rattle.kinds.specs.Row.{formatOf}
 use Rattle.kinds.specs.declared.Outcome.{Outcome}
-use Rattle.kinds.specs.declared.Answer.{Answer}
+use Rattle.kinds.specs.declared.Reply.{Reply}
 use Rattle.cast_spec.specs.Element as E
 use Rattle.cast_spec.specs.Element.{outcomeOf}
-use Rattle.cast_spec.specs.Chunk.{answerFrom, bytesFrom}
+use Rattle.cast_spec.specs.Chunk.{answerFrom, bytesFrom, convertedOf, countsBelow}
 use Rattle.routes.specs.Route.{routeOf}
 use Rattle.chunk_element.specs.declared.Settings.{Settings}
 use Rattle.chunk_element.specs.Settings.{MapReady}
@@ -29,18 +29,18 @@ settingsBy from to rounding range keys = record {
   entries = keys / width (kindOf from);
 }
 
--- ---- the positions from a to before e
+-- ---- the first n positions
 
-pub record RunReady (s : Settings) (keys targets src dst : List ℕ) (a e : ℕ) : Type 0 where
+pub record RunReady (s : Settings) (keys targets src dst : List ℕ) (n : ℕ) : Type 0 where
   pub map : MapReady s keys targets
-  pub order : a ≤ e
-  pub source : e * s .sw ≤ length src
-  pub target : e * s .dw ≤ length dst
+  pub source : n * s .sw ≤ length src
+  pub target : n * s .dw ≤ length dst
 
 -- the outcome by position
 abbrev pub outcomes : E.Settings → ℕ → List ℕ → ℕ → Outcome
 outcomes S sw src i = outcomeOf S (patternAt sw src i)
 
-pub record Ran (S : E.Settings) (sw dw : ℕ) (src dst : List ℕ) (a e : ℕ) (r : Answer) (dst′ : List ℕ) : Type 0 where
-  pub answer : r ≡ answerFrom (outcomes S sw src) a (e - a)
-  pub bytes : dst′ ≡ take (a * dw) dst ++ bytesFrom (outcomes S sw src) dw a (e - a) (drop (a * dw) dst)
+pub record Ran (S : E.Settings) (sw dw : ℕ) (src dst : List ℕ) (n : ℕ) (r : Reply) (dst′ : List ℕ) : Type 0 where
+  pub answer : r .answer ≡ answerFrom (outcomes S sw src) 0 n
+  pub counts : r .counts ≡ countsBelow (outcomes S sw src) (convertedOf n (r .answer))
+  pub bytes : dst′ ≡ bytesFrom (outcomes S sw src) dw 0 n dst

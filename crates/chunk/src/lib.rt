@@ -5,40 +5,56 @@ ghost use Prim.Native.Nat.{_/_, _%_, _<_};
 ghost use lib.Dec.{eqb};
 ghost use Rattle.cast_spec.specs.Chunk.{inputs};
 ghost use Rattle.cast_spec.specs.Contract.{Contract};
+ghost use Rattle.kinds.specs.Counts.{unconverted};
 ghost use Rattle.chunk_element.specs.Settings.{settingsFor};
 ghost use Rattle.chunk.specs.Run.{settingsBy, RunReady, Ran};
 use chunk_element::Settings;
 use kinds::Answer;
 use kinds::Fit;
+use kinds::Reply;
 
-// The elements of the positions from first to before end, by position, up to the first refusal.
-fn run(
-    src: &[u8],
-    dst: &mut [u8],
-    keys: &[u8],
-    targets: &[u8],
-    s: Settings,
-    first: usize,
-    end: usize,
-) -> Answer
-    requires { ⌜ RunReady s (now keys) (now targets) (now src) (now dst) first end ⌝ }
-    ensures { λ r. ⌜ Ran (settingsFor s (now (keys .entry)) (now (targets .entry))) (s .sw) (s .dw) (now (src .entry)) (now (dst .entry)) first end r (now (dst .exit)) ⌝ }
+// The first n elements, by position, up to the first refusal. An element is counted when the next turn begins: at once, its place in the tally would be
+// known so late that the machine's loads behind it wait.
+fn run(src: &[u8], dst: &mut [u8], keys: &[u8], targets: &[u8], s: Settings, n: usize) -> Reply
+    requires { ⌜ RunReady s (now keys) (now targets) (now src) (now dst) n ⌝ }
+    ensures { λ r. ⌜ Ran (settingsFor s (now (keys .entry)) (now (targets .entry))) (s .sw) (s .dw) (now (src .entry)) (now (dst .entry)) n r (now (dst .exit)) ⌝ }
 {
     let sw = s.sw;
     let dw = s.dw;
-    let mut i = first;
-    let mut input = first * sw;
-    let mut output = first * dw;
-    while i < end {
+    let mut i = 0;
+    let mut input = 0;
+    let mut output = 0;
+    let mut tally = kinds::no_tally();
+    let mut last = kinds::NO_ELEMENT;
+    while i < n {
+        kinds::count_at(&mut tally, last);
         let r = chunk_element::convert_at(src, dst, keys, targets, s, input, output);
-        let Fit::Pattern(_) = r else {
-            return chunk_element::refused_at(src, s, input, i, r);
+        let Fit::Pattern { pattern: _, fared } = r else {
+            return Reply {
+                answer: chunk_element::refused_at(src, s, input, i, r),
+                counts: kinds::counts_of(tally),
+            };
         };
+        last = kinds::place(fared);
         input += sw;
         output += dw;
         i += 1;
     }
-    Answer::Converted
+    kinds::count_at(&mut tally, last);
+    Reply {
+        answer: Answer::Converted,
+        counts: kinds::counts_of(tally),
+    }
+}
+
+// A call that is refused before its elements.
+fn refused(answer: Answer) -> Reply
+    ensures { λ r. ⌜ r ≡ unconverted answer ⌝ }
+{
+    Reply {
+        answer: answer,
+        counts: kinds::no_counts(),
+    }
 }
 
 // The settings of listed codes and of so many bytes of keys.
@@ -94,26 +110,26 @@ pub fn convert(
     to: u8,
     rounding: u8,
     range: u8,
-) -> Answer
+) -> Reply
     ensures { λ r. ⌜ Contract (inputs (now (src .entry)) (now (dst .entry)) (now (keys .entry)) (now (targets .entry)) from to rounding range) r (now (dst .exit)) ⌝ }
 {
     if !kinds::codes_listed(from, to, rounding, range) {
-        return Answer::UnknownCode;
+        return refused(Answer::UnknownCode);
     }
     let s = settings_of(from, to, rounding, range, keys.len());
     if !whole_map(keys.len(), targets.len(), s.sw, s.dw) {
-        return Answer::BrokenMap;
+        return refused(Answer::BrokenMap);
     }
     if !whole_elements(src.len(), dst.len(), s.sw, s.dw) {
-        return Answer::BrokenElement;
+        return refused(Answer::BrokenElement);
     }
     let n = src.len() / s.sw;
     let m = dst.len() / s.dw;
     if n != m {
-        return Answer::LengthMismatch {
+        return refused(Answer::LengthMismatch {
             src_len: n,
             dst_len: m,
-        };
+        });
     }
-    run(src, dst, keys, targets, s, 0, n)
+    run(src, dst, keys, targets, s, n)
 }

@@ -26,7 +26,7 @@ use Rattle.mapping.specs.Map.{MapBytes}
 use Rattle.cast_spec.specs.Fit.{filled, fitOf, unmapped}
 use Rattle.element.specs.Element.{FormatPattern}
 use Rattle.steps.specs.Steps.{stepped}
-use Rattle.routes.specs.Route.{RouteRow, routeOf, sourceOf, targetOf}
+use Rattle.routes.specs.Route.{RouteRow, sourceOf, targetOf}
 use Rattle.cast_spec.proofs.Filled.{outcome-filled}
 use Rattle.steps.proofs.Found.{found-outcome}
 use Rattle.routes.proofs.Routes.{route-row, source-kind, target-kind}
@@ -105,7 +105,7 @@ module _ (s : Settings) (keys targets : List ℕ) (map : MapReady s keys targets
   integer-kind f e = ap (integer (f .signed)) (sym (map .ready .source-bits) ∙ ap (λ (g : Format). bits (kindIn g)) e) ∙ ap kindIn (sym e)
 
 pub not-stored : (o : Outcome) (dst : List ℕ) (d w : ℕ) → Refuses o → dst ≡ storedAt (fitOf o) dst d w
-not-stored (Stored b) dst d w r = absurd r
+not-stored (Stored b _) dst d w r = absurd r
 not-stored (NanOrInf v) dst d w r = refl
 not-stored (OutOfRange v lo hi) dst d w r = refl
 not-stored (FloatOutOfRange v lo hi) dst d w r = refl

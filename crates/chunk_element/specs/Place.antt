@@ -42,7 +42,7 @@ pub record PlaceReady (s : Settings) (keys targets src dst : List ℕ) (a d : �
 
 -- a refused element leaves the destination as it was
 abbrev pub storedAt : Fit → List ℕ → ℕ → ℕ → List ℕ
-storedAt (Pattern b) dst d w = put dst d w b
+storedAt (Pattern b f) dst d w = put dst d w b
 storedAt NotFinite dst d w = dst
 storedAt OutOfRange dst d w = dst
 

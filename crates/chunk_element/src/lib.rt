@@ -72,7 +72,7 @@ pub fn convert_at(
     ensures { λ r. ⌜ ConvertedAt (settingsFor s (now (keys .entry)) (now (targets .entry))) (s .sw) (s .dw) (now (src .entry)) (now (dst .entry)) input output r (now (dst .exit)) ⌝ }
 {
     let r = steps(bytes_le::read_le(src, input, s.sw), keys, targets, s);
-    if let Fit::Pattern(pattern) = r {
+    if let Fit::Pattern { pattern, fared: _ } = r {
         bytes_le::write_le(dst, output, s.dw, pattern);
     }
     r

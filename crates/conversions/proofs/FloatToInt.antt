@@ -9,6 +9,7 @@ use lib.IntN.{ℤ}
 use denote.Enum.Declared.{tagOf}
 use types.Run.{OneOf}
 use Rattle.grid.specs.Grid.{whole}
+use Rattle.grid.specs.Ternary.{ternaryOf}
 use Rattle.grid.specs.Round.{ruleFor, signed}
 use Rattle.grid.specs.declared.RoundingMode.{RoundingMode}
 use Rattle.grid.proofs.Kept.{pick-signed}
@@ -39,11 +40,12 @@ module _ (s : Bool) (n : ℕ) (mode : RoundingMode) (range : OutOfRangeMode) (x 
       go Infinite t = refl
       go (NotANumber t) u = refl
 
-  pub rounded-fit : (m : Scaled) → x .class ≡ Finite m → (w : Whole) → w ≡ wholeOf (ruleFor (x .negative) mode) (m .significand * 2 ^ m .exponent) → (r : Fit) → RangeApplied (x .negative) (w .magnitude) (w .exceeds) (integer s n) range r → r ≡ fitFloat (integer s n) mode range x
+  pub rounded-fit : (m : Scaled) → x .class ≡ Finite m → (w : Whole) → w ≡ wholeOf (x .negative) mode (m .significand * 2 ^ m .exponent) → (r : Fit) → RangeApplied (x .negative) (w .magnitude) (w .exceeds) (w .ternary) (integer s n) range r → r ≡ fitFloat (integer s n) mode range x
   rounded-fit m c w ws r applied =
       let neg = x .negative in
       let u = m .significand * 2 ^ m .exponent in
       let N = unitsOf 1074 (ruleFor neg mode) u in
-      applied .fit N (ap (λ (z : Whole). z .magnitude) ws) (ap (λ (z : Whole). z .exceeds) ws)
-      ∙ ap (λ (z : ℤ). fitOf (ranged (integer s n) range 0 neg z)) (sym (pick-signed (whole 1074) tt mode neg u ∙ ap (signed neg) (whole-times-unit (ruleFor neg mode) 1074 u)))
+      let y = whole-times-unit (ruleFor neg mode) 1074 u in
+      applied .fit N (signed neg u) (ap (λ (z : Whole). z .magnitude) ws) (ap (λ (z : Whole). z .exceeds) ws) (ap (λ (z : Whole). z .ternary) ws ∙ ap (λ (z : ℕ). ternaryOf (signed neg u) (signed neg z)) y)
+      ∙ ap (λ (z : ℤ). fitOf (ranged (integer s n) range 0 neg (signed neg u) z)) (sym (pick-signed (whole 1074) tt mode neg u ∙ ap (signed neg) y))
       ∙ ap (fitClass (integer s n) mode range x) (sym c)

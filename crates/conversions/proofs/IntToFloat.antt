@@ -5,24 +5,30 @@ use Prim.Native.Nat.{ℕ, _-_, _*_, _^_, _≤_, _<_}
 use native.Mathlib.Nat.{zero-mul}
 use native.Mathlib.Omega.{arith}
 use lib.Dec.{lit<, lit≤}
+use lib.Pow.{pow-pos}
 use Rattle.grid.specs.Grid.{OnMag, float}
-use Rattle.grid.specs.Round.{pickMag, ruleFor}
+use Rattle.grid.specs.Round.{pickMag, ruleFor, signed}
+use Rattle.grid.specs.Ternary.{ternaryOf, ternaryFor}
 use Rattle.grid.specs.declared.RoundingMode.{RoundingMode}
+use Rattle.grid.specs.declared.Rounded.{Rounded}
 use Rattle.grid.proofs.Kept.{size-pos, size-shift}
 use Rattle.grid.proofs.Neighbours.{cut, finer}
 use Rattle.grid.proofs.Picked.{picked-pos}
+use Rattle.grid.proofs.Sides.{side-scale}
 use Rattle.patterns.specs.Kind.{binary, f64}
 use Rattle.patterns.specs.Float.{infBits}
 use Rattle.patterns.specs.Pattern.{magBits, withSign}
 use Rattle.patterns.proofs.Floats.{mag-lt}
+use Rattle.kinds.specs.Counts.{byPick}
 use Rattle.kinds.specs.Row.{floatFormat, FloatRow}
+use Rattle.kinds.specs.declared.Fared.{Fared}
 use Rattle.kinds.specs.declared.FloatFormat.{FloatFormat}
 use Rattle.kinds.specs.declared.OutOfRangeMode.{OutOfRangeMode}
 use Rattle.kinds.specs.declared.Fit.the-variants.{Pattern}
 use Rattle.floats.specs.Form.{CanonicalClass, scaledOf}
 use Rattle.floats.specs.declared.Class.the-variants.{Finite}
 use Rattle.floats.proofs.Values.{scaled-canonical}
-use Rattle.integers.specs.Precision.{Precision}
+use Rattle.integers.specs.Precision.{Precision, roundedBits}
 use Rattle.integers.specs.declared.Integer.{Integer}
 use Rattle.integers.proofs.Bounds.{pick-in-f64, pick-on}
 use Rattle.integers.proofs.Scale.{pick-scale}
@@ -38,7 +44,7 @@ row-precision f row = ⊎-elim
     (λ (e : f ≡ floatFormat 24 8 925). let p = ap (λ (g : FloatFormat). g .precision) e in record { two = omega arith; at-most-53 = omega arith })
     (λ (e : f ≡ floatFormat 53 11 0). let p = ap (λ (g : FloatFormat). g .precision) e in record { two = omega arith; at-most-53 = omega arith }) row
 
-module _ (x : Integer) (small : x .magnitude < 2 ^ 64) (mode : RoundingMode) (range : OutOfRangeMode) (bits : ℕ) where
+module _ (x : Integer) (small : x .magnitude < 2 ^ 64) (mode : RoundingMode) (range : OutOfRangeMode) (rounded : Rounded) where
   abbrev r : RoundingMode
   r = ruleFor (x .negative) mode
 
@@ -49,14 +55,28 @@ module _ (x : Integer) (small : x .magnitude < 2 ^ 64) (mode : RoundingMode) (ra
   picked-is : (p s : ℕ) → s ≤ 1074 → pickMag (float p s) r (x .magnitude * 2 ^ 1074) ≡ picked p
   picked-is p s h = pick-scale p s r (x .magnitude) 1074 h
 
-  pub integer-to-f64 : bits ≡ magBits 53 0 (picked 53) → Pattern (withSign 64 (x .negative) bits) ≡ fitInteger f64 mode range x
-  integer-to-f64 e =
+  abbrev bits : ℕ
+  bits = rounded .bits
+
+  bits-are : (p : ℕ) → rounded ≡ roundedBits p (x .negative) mode (x .magnitude) → bits ≡ magBits 53 0 (picked p)
+  bits-are p e = ap (λ (z : Rounded). z .bits) e
+
+  -- the pick lies beside the multiple of 2^-1074 that the integer is as it lies beside the integer
+  side-is : (p s : ℕ) → s ≤ 1074 → rounded ≡ roundedBits p (x .negative) mode (x .magnitude) → rounded .ternary ≡ ternaryFor (float p s) (x .negative) mode (x .magnitude * 2 ^ 1074)
+  side-is p s h e =
+      ap (λ (z : Rounded). z .ternary) e
+      ∙ sym (side-scale (x .negative) (x .magnitude) (pickMag (float p 0) r (x .magnitude)) (2 ^ 1074) (pow-pos 1074))
+      ∙ ap (λ (z : ℕ). ternaryOf (signed (x .negative) (x .magnitude * 2 ^ 1074)) (signed (x .negative) z)) (sym (picked-is p s h))
+
+  pub integer-to-f64 : rounded ≡ roundedBits 53 (x .negative) mode (x .magnitude) → (f : Fared) → f ≡ byPick (rounded .ternary) → Pattern (withSign 64 (x .negative) bits) f ≡ fitInteger f64 mode range x
+  integer-to-f64 e f g =
       let ok : Precision 53 = record { two = lit≤ tt; at-most-53 = lit≤ tt } in
-      bits-fit 53 11 (x .negative) range bits (subst (λ (z : ℕ). z < infBits 53 11) (sym e) (mag-lt 53 11 0 (lit≤ tt) (lit< tt) (picked 53) (pick-on 53 ok r (x .magnitude) small) (pick-in-f64 53 ok r (x .magnitude) small)))
-      ∙ number-fit 53 11 0 (lit≤ tt) (lit< tt) mode range (x .negative) (x .magnitude * 2 ^ 1074) bits (e ∙ ap (magBits 53 0) (sym (picked-is 53 0 (omega arith))))
+      ap (Pattern (withSign 64 (x .negative) bits)) g
+      ∙ bits-fit 53 11 (x .negative) range bits (rounded .ternary) (subst (λ (z : ℕ). z < infBits 53 11) (sym (bits-are 53 e)) (mag-lt 53 11 0 (lit≤ tt) (lit< tt) (picked 53) (pick-on 53 ok r (x .magnitude) small) (pick-in-f64 53 ok r (x .magnitude) small)))
+      ∙ number-fit 53 11 0 (lit≤ tt) (lit< tt) mode range (x .negative) (x .magnitude * 2 ^ 1074) bits (bits-are 53 e ∙ ap (magBits 53 0) (sym (picked-is 53 0 (omega arith)))) (rounded .ternary) (side-is 53 0 (omega arith) e)
 
   -- ---- to a narrower format
-  module _ (p w s : ℕ) (narrower : Narrower p s) (some : 0 < w) (fine : s ≤ 1074) (early : s - (53 - p) ≤ 1022) (e : bits ≡ magBits 53 0 (picked p)) where
+  module _ (p w s : ℕ) (narrower : Narrower p s) (some : 0 < w) (fine : s ≤ 1074) (early : s - (53 - p) ≤ 1022) (e : rounded ≡ roundedBits p (x .negative) mode (x .magnitude)) where
     ok : Precision p
     ok = record { two = narrower .two; at-most-53 = omega (arith, narrower .fewer) }
 
@@ -75,8 +95,8 @@ module _ (x : Integer) (small : x .magnitude < 2 ^ 64) (mode : RoundingMode) (ra
         none l = omega arith
 
     pub integer-rebiasable : Rebiasable p s bits
-    integer-rebiasable = subst (Rebiasable p s) (sym e) (rebiasable p s (picked p) narrower on canonical normal)
+    integer-rebiasable = subst (Rebiasable p s) (sym (bits-are p e)) (rebiasable p s (picked p) narrower on canonical normal)
 
-    pub integer-narrowed : fitBits p w (x .negative) range (rebiased p s bits) ≡ fitInteger (binary p w s) mode range x
+    pub integer-narrowed : fitBits p w (x .negative) range (rebiased p s bits) (rounded .ternary) ≡ fitInteger (binary p w s) mode range x
     integer-narrowed = number-fit p w s (narrower .two) some mode range (x .negative) (x .magnitude * 2 ^ 1074) (rebiased p s bits)
-        (ap (rebiased p s) e ∙ rebias-exact p s (picked p) narrower on canonical normal ∙ ap (magBits p s) (sym (picked-is p s fine)))
+        (ap (rebiased p s) (bits-are p e) ∙ rebias-exact p s (picked p) narrower on canonical normal ∙ ap (magBits p s) (sym (picked-is p s fine))) (rounded .ternary) (side-is p s fine e)

@@ -8,7 +8,9 @@ ghost use Rattle.conversions.specs.Fit.{fitInteger};
 use floats::Class;
 use floats::Float;
 use grid::RoundingMode;
+use grid::Ternary;
 use integers::Integer;
+use kinds::Fared;
 use kinds::Fit;
 use kinds::FloatFormat;
 use kinds::IntegerFormat;
@@ -30,7 +32,8 @@ pub fn convert_float_to_int(
         return Fit::NotFinite;
     };
     let whole = rounding::round_to_whole(magnitude, mode, negative);
-    integer_range::apply_range(negative, whole.magnitude, whole.exceeds, to, range)
+    let ternary = whole.ternary;
+    integer_range::apply_range(negative, whole.magnitude, whole.exceeds, ternary, to, range)
 }
 
 // An integer to an integer kind; nothing is rounded.
@@ -38,7 +41,7 @@ pub fn convert_int_to_int(x: Integer, to: IntegerFormat, range: OutOfRangeMode) 
     requires { ⌜ IntegerRow to ⌝ }
     ensures { λ r. ⌜ ((mode : RoundingMode) → r ≡ fitInteger (integerOf to) mode range x) ⌝ }
 {
-    integer_range::apply_range(x.negative, x.magnitude, false, to, range)
+    integer_range::apply_range(x.negative, x.magnitude, false, Ternary::Exact, to, range)
 }
 
 // A float to a float kind; to f64 it is exact.
@@ -54,7 +57,10 @@ pub fn convert_float_to_float(
     let precision = to.precision;
     match precision {
         24 => narrowing::narrow_f32(x, mode, range),
-        _ => Fit::Pattern(floats::write_f64(x)),
+        _ => Fit::Pattern {
+            pattern: floats::write_f64(x),
+            fared: Fared::Exact,
+        },
     }
 }
 
@@ -70,9 +76,13 @@ pub fn convert_int_to_float(
 {
     let negative = x.negative;
     let precision = to.precision;
-    let bits = integers::int_to_f64_magnitude(x.magnitude, negative, precision, mode);
+    let rounded = integers::int_to_f64_magnitude(x.magnitude, negative, precision, mode);
+    let ternary = rounded.ternary;
     match precision {
-        24 => narrowing::rebias_f32(bits, negative, range),
-        _ => Fit::Pattern(floats::sign_bit(negative, 63) + bits),
+        24 => narrowing::rebias_f32(rounded.bits, ternary, negative, range),
+        _ => Fit::Pattern {
+            pattern: floats::sign_bit(negative, 63) + rounded.bits,
+            fared: kinds::by_pick(ternary),
+        },
     }
 }

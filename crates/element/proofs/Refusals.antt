@@ -40,7 +40,7 @@ pub refusal-of : (i : ℕ) (o : Outcome) (r : Answer) → r ≡ answerNext o i C
 refusal-of i o r e = record { answer = e; number = ap numberOf e ∙ same o .0; values = ap valuesOf e ∙ same o .1 }
   where
     same : (o : Outcome) → (numberOf (answerNext o i Converted) ≡ outcomeNumber o) × (valuesOf (answerNext o i Converted) ≡ outcomeValues i o)
-    same (Stored b) = (refl, refl)
+    same (Stored b _) = (refl, refl)
     same (NanOrInf v) = (refl, refl)
     same (OutOfRange v lo hi) = (refl, refl)
     same (FloatOutOfRange v lo hi) = (refl, refl)

@@ -63,7 +63,10 @@ pub fn outcome(b: u64, fit: Fit, source: Format, target: Format) -> Outcome
 {
     let value = as_f64(read(b, source));
     match fit {
-        Fit::Pattern(pattern) => Outcome::Stored(pattern),
+        Fit::Pattern { pattern, fared } => Outcome::Stored {
+            pattern: pattern,
+            fared: fared,
+        },
         Fit::NotFinite => Outcome::NanOrInf { value: value },
         Fit::OutOfRange => match target {
             Format::Integer(t) => Outcome::OutOfRange {
@@ -85,7 +88,10 @@ pub fn refusal(position: usize, o: Outcome) -> Answer
     ensures { λ r. ⌜ RefusalOf position o r ⌝ }
 {
     match o {
-        Outcome::Stored(_) => Answer::Converted,
+        Outcome::Stored {
+            pattern: _,
+            fared: _,
+        } => Answer::Converted,
         Outcome::NanOrInf { value } => Answer::NanOrInf {
             position: position,
             value: value,

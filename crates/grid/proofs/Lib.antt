@@ -5,3 +5,4 @@ pub mod Step
 pub mod Picked
 pub mod Kept
 pub mod Overrun
+pub mod Sides

@@ -1,3 +1,4 @@
 pub mod Grid
 pub mod Pick
 pub mod Round
+pub mod Ternary

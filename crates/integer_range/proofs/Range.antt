@@ -1,23 +1,28 @@
 -- A whole number and an integer kind's range, by sign and magnitude, in any unit u.
-use mathlib.Core.Path.{_≡_, refl, sym, ap, subst, _∙_}
-use mathlib.Core.Bool.{Bool, true, false, cond, _&&_}
+use mathlib.Core.Path.{_≡_, refl, sym, ap, ap₂, subst, _∙_}
+use mathlib.Core.Bool.{Bool, true, false, cond, _&&_, _||_, true≢false}
 use mathlib.Core.Logic.{_⊎_, inl, inr}
-use Prim.Native.Nat.{ℕ, _-_, _*_, _^_, _≤_, _<_, _%_, _+_, min}
+use Prim.Native.Nat.{ℕ, _-_, _*_, _^_, _≤_, _<_, _%_, _+_}
 use native.Mathlib.Nat.{zero-mul, mul-le-mul-right, le-of-mul-le-mul-right, mul-lt-mul-of-pos-right, lt-of-lt-of-le, mod-eq-of-lt}
 use native.Mathlib.Omega.{arith}
-use lib.Dec.{leb, T}
+use lib.Dec.{leb, ltb, T}
 use lib.IntN.{ℤ, pos, negℤ}
 use lib.Pow.{pow-pos, pow-mono}
 use lib.Signed.{_≤ℤ_, leZ-yes, ltZ-yes, _<ℤ_, leZ, ltZ}
-use borrow.Author.Tests.{le-leb, lt-leb, leb-false, leb-true}
+use borrow.Author.Tests.{le-leb, lt-leb, leb-false, leb-true, lt-ltb, ltb-true, ltb-false}
 use Rattle.grid.specs.Round.{signed}
+use Rattle.grid.specs.Ternary.{ternaryOf}
+use Rattle.grid.specs.declared.Ternary.{Ternary}
 use Rattle.grid.proofs.Int.{ints, up-neg, dn-neg}
 use Rattle.grid.proofs.Neighbours.{cut, pow-twice-pred}
 use Rattle.patterns.specs.Kind.{highInt, Kind, integer, highest}
 use Rattle.patterns.specs.Pattern.{lowBits, patternOf}
 use Rattle.patterns.proofs.AnyKind.{lowest-in, whole-pattern}
 use Rattle.patterns.proofs.Integers.{lowIn}
+use Rattle.kinds.specs.Counts.{byPick}
 use Rattle.kinds.specs.Row.{integerOf, IntegerRow}
+use Rattle.kinds.specs.declared.Fared.{Fared}
+use Rattle.kinds.specs.declared.Fared.the-variants.{Clamped, Wrapped}
 use Rattle.kinds.specs.declared.IntegerFormat.{IntegerFormat}
 use Rattle.kinds.specs.declared.OutOfRangeMode.{OutOfRangeMode}
 use Rattle.kinds.specs.declared.OutOfRangeMode.the-variants.{Clamp, None, Wrap}
@@ -27,7 +32,7 @@ use Rattle.kinds.specs.declared.Fit.the-variants.{Pattern, OutOfRange}
 use Rattle.cast_spec.specs.Element.{inRange, nearerEnd, beyond, ranged}
 use Rattle.wrapping.proofs.Residues.{low-bits-mod}
 use Rattle.cast_spec.specs.Fit.{fitOf}
-use Rattle.integer_range.specs.Range.{endMag, RangeApplied}
+use Rattle.integer_range.specs.Range.{refusing, clamping, endMag, RangeApplied}
 
 -- ---- in range exactly where the magnitude is at most the end's on that side
 module _ (s : Bool) (n u : ℕ) (unit : 0 < u) where
@@ -88,8 +93,8 @@ module _ (s : Bool) (n u : ℕ) (unit : 0 < u) where
       picks true f = absurd (omega (ints, subst (λ (z : ℤ). signed false (N * u) <ℤ z) low-is (f tt), up-neg (pos (end true * u)), dn-neg (pos (end true * u))))
       picks false f = refl
 
--- ---- the range step of an integer kind, by sign and magnitude
-module _ (s : Bool) (n : ℕ) (neg : Bool) (N : ℕ) where
+-- ---- the range step of an integer kind: the pick of an element x, by sign and magnitude
+module _ (s : Bool) (n : ℕ) (neg : Bool) (x : ℤ) (N : ℕ) where
   abbrev k : Kind
   k = integer s n
 
@@ -104,30 +109,42 @@ module _ (s : Bool) (n : ℕ) (neg : Bool) (N : ℕ) where
   unfolding highest endMag end
   nearer h = ap (λ (z : ℤ). cond (ltZ y z) z (pos (highInt s n * 2 ^ 1074))) (lowest-in s n) ∙ nearer-is s n (2 ^ 1074) (pow-pos 1074) neg N h
 
-  -- the pattern of a magnitude of that sign
-  abbrev stored : ℕ → Fit
-  stored z = Pattern (lowBits n (signed neg z))
+  -- the pattern of a magnitude of that sign, and how the element fared
+  abbrev stored : ℕ → Fared → Fit
+  stored z f = Pattern (lowBits n (signed neg z)) f
+
+  abbrev fared : Fared
+  fared = byPick (ternaryOf x y)
 
   abbrev fit : OutOfRangeMode → Fit
-  fit range = fitOf (ranged k range 0 neg y)
+  fit range = fitOf (ranged k range 0 neg x y)
 
-  fits-in : (range : OutOfRangeMode) → N ≤ endMag k neg → stored N ≡ fit range
-  fits-in range h = sym (ap (λ (c : Bool). fitOf (cond c (Stored (patternOf k neg y)) (beyond k range 0 neg y))) (test-is ∙ le-leb N (endMag k neg) h) ∙ ap Pattern (whole-pattern s n neg neg N))
+  fits-in : (range : OutOfRangeMode) → N ≤ endMag k neg → stored N fared ≡ fit range
+  fits-in range h = sym (ap (λ (c : Bool). fitOf (cond c (Stored (patternOf k neg y) fared) (beyond k range 0 neg y))) (test-is ∙ le-leb N (endMag k neg) h) ∙ ap (λ (z : ℕ). Pattern z fared) (whole-pattern s n neg neg N))
 
   past : (range : OutOfRangeMode) → endMag k neg < N → fitOf (beyond k range 0 neg y) ≡ fit range
-  past range h = sym (ap (λ (c : Bool). fitOf (cond c (Stored (patternOf k neg y)) (beyond k range 0 neg y))) (test-is ∙ lt-leb N (endMag k neg) h))
+  past range h = sym (ap (λ (c : Bool). fitOf (cond c (Stored (patternOf k neg y) fared) (beyond k range 0 neg y))) (test-is ∙ lt-leb N (endMag k neg) h))
 
   past-none : endMag k neg < N → OutOfRange ≡ fit None
   unfolding beyond
   past-none h = past None h
 
-  past-clamp : endMag k neg < N → stored (endMag k neg) ≡ fit Clamp
+  past-clamp : endMag k neg < N → stored (endMag k neg) Clamped ≡ fit Clamp
   unfolding beyond
-  past-clamp h = sym (ap (λ (z : ℤ). Pattern (patternOf k neg z)) (nearer h) ∙ ap Pattern (whole-pattern s n neg neg (endMag k neg))) ∙ past Clamp h
+  past-clamp h = sym (ap (λ (z : ℤ). Pattern (patternOf k neg z) Clamped) (nearer h) ∙ ap (λ (z : ℕ). Pattern z Clamped) (whole-pattern s n neg neg (endMag k neg))) ∙ past Clamp h
 
-  past-wrap : endMag k neg < N → stored N ≡ fit Wrap
+  past-wrap : endMag k neg < N → stored N Wrapped ≡ fit Wrap
   unfolding beyond
-  past-wrap h = sym (ap Pattern (whole-pattern s n neg neg N)) ∙ past Wrap h
+  past-wrap h = sym (ap (λ (z : ℕ). Pattern z Wrapped) (whole-pattern s n neg neg N)) ∙ past Wrap h
+
+  -- each range choice, where p tells whether the magnitude is past the end
+  clamp-fits : (p : Bool) → p ≡ ltb (endMag k neg) N → stored (cond p (endMag k neg) N) (cond p Clamped fared) ≡ fit Clamp
+  clamp-fits true e = past-clamp (ltb-true (endMag k neg) N (sym e))
+  clamp-fits false e = fits-in Clamp (ltb-false (endMag k neg) N (sym e))
+
+  wrap-fits : (p : Bool) → p ≡ ltb (endMag k neg) N → stored N (cond p Wrapped fared) ≡ fit Wrap
+  wrap-fits true e = past-wrap (ltb-true (endMag k neg) N (sym e))
+  wrap-fits false e = fits-in Wrap (ltb-false (endMag k neg) N (sym e))
 
 -- ---- what a program has in hand: the magnitude modulo 2^64, and whether it reaches 2^64
 end-lt : (s : Bool) (n : ℕ) (neg : Bool) → 0 < n → n ≤ 64 → endMag (integer s n) neg < 2 ^ 64
@@ -147,38 +164,73 @@ module _ (s : Bool) (n : ℕ) (positive : 0 < n) (at-most : n ≤ 64) (neg : Boo
   within-is : leb (2 ^ 64) N ≡ false → N % 2 ^ 64 ≡ N
   within-is e = mod-eq-of-lt (leb-false (2 ^ 64) N e)
 
--- by the target's bits and sign, and its end on that side
-module _ (s : Bool) (n : ℕ) (positive : 0 < n) (at-most : n ≤ 64) (neg : Bool) (m : ℕ) (exceeds : Bool) (end : ℕ) (ends : end ≡ endMag (integer s n) neg) where
-  abbrev pattern : ℕ → Fit
-  pattern z = Pattern (lowBits n (signed neg z))
+and-left : (a b : Bool) → a && b ≡ true → a ≡ true
+and-left true b e = refl
+and-left false b e = e
 
+and-right : (a b : Bool) → a && b ≡ true → b ≡ true
+and-right true b e = e
+and-right false b e = absurd (true≢false (sym e))
+
+and-false : (a : Bool) → a && true ≡ false → a ≡ false
+and-false true e = e
+and-false false e = e
+
+-- by the target's bits and sign, and its end on that side
+module _ (s : Bool) (n : ℕ) (positive : 0 < n) (at-most : n ≤ 64) (neg : Bool) (m : ℕ) (exceeds : Bool) (t : Ternary) (end : ℕ) (ends : end ≡ endMag (integer s n) neg) where
+  -- where it does not reach 2^64 or is not past the end, the magnitude is in hand
   own-magnitude : (N : ℕ) → exceeds ≡ false → m ≡ N % 2 ^ 64 → exceeds ≡ leb (2 ^ 64) N → m ≡ N
   own-magnitude N f a b = a ∙ within-is s n positive at-most neg N (sym b ∙ f)
 
-  pub refused-exceeding : exceeds ≡ true → RangeApplied neg m exceeds (integer s n) None OutOfRange
-  refused-exceeding f = record { fit = λ N a b. past-none s n neg N (exceeds-past s n positive at-most neg N (sym b ∙ f)) }
-
-  pub refused-past : exceeds ≡ false → end < m → RangeApplied neg m exceeds (integer s n) None OutOfRange
-  refused-past f h = record { fit = λ N a b. past-none s n neg N (omega (arith, own-magnitude N f a b)) }
-
-  pub stored-in : exceeds ≡ false → m ≤ end → (range : OutOfRangeMode) (r : ℕ) → r ≡ lowBits n (signed neg m) → RangeApplied neg m exceeds (integer s n) range (Pattern r)
-  stored-in f h range r e = record { fit = λ N a b. let c = own-magnitude N f a b in ap Pattern e ∙ ap pattern c ∙ fits-in s n neg N range (omega arith) }
-
-  pub clamped : (r : ℕ) → r ≡ lowBits n (signed neg (cond exceeds end (min m end))) → RangeApplied neg m exceeds (integer s n) Clamp (Pattern r)
-  clamped r e = record { fit = λ N a b. ap Pattern e ∙ go N exceeds (exceeds-past s n positive at-most neg N) a b (λ f. own-magnitude N f a b) }
+  past-told : (N : ℕ) → m ≡ N % 2 ^ 64 → exceeds ≡ leb (2 ^ 64) N → exceeds || ltb end m ≡ ltb (endMag (integer s n) neg) N
+  past-told N a b = go exceeds refl
     where
-      go : (N : ℕ) (t : Bool) → (leb (2 ^ 64) N ≡ true → endMag (integer s n) neg < N) → m ≡ N % 2 ^ 64 → t ≡ leb (2 ^ 64) N → (t ≡ false → m ≡ N) → pattern (cond t end (min m end)) ≡ fitOf (ranged (integer s n) Clamp 0 neg (signed neg (N * 2 ^ 1074)))
-      go N true p a b c = ap pattern ends ∙ past-clamp s n neg N (p (sym b))
-      go N false p a b c = let is = c refl in cut end m
-          (λ (l : end < m). let z : min m end ≡ endMag (integer s n) neg = omega arith in ap pattern z ∙ past-clamp s n neg N (omega arith))
-          (λ (l : m ≤ end). let z : min m end ≡ N = omega arith in ap pattern z ∙ fits-in s n neg N Clamp (omega arith))
+      go : (c : Bool) → exceeds ≡ c → c || ltb end m ≡ ltb (endMag (integer s n) neg) N
+      go true f = sym (lt-ltb (endMag (integer s n) neg) N (exceeds-past s n positive at-most neg N (sym b ∙ f)))
+      go false f = ap₂ ltb ends (own-magnitude N f a b)
 
-  pub wrapped : (r : ℕ) → r ≡ lowBits n (signed neg m) → RangeApplied neg m exceeds (integer s n) Wrap (Pattern r)
-  wrapped r e = record {
-    fit = λ N a b. ap Pattern (e ∙ ap (λ (z : ℕ). lowBits n (signed neg z)) a ∙ low-bits-mod n neg N at-most) ∙ cut (endMag (integer s n) neg) N
-        (λ (l : endMag (integer s n) neg < N). past-wrap s n neg N l)
-        (λ (l : N ≤ endMag (integer s n) neg). fits-in s n neg N Wrap l);
+  in-hand : (N : ℕ) → m ≡ N % 2 ^ 64 → exceeds ≡ leb (2 ^ 64) N → exceeds || ltb end m ≡ false → m ≡ N
+  in-hand N a b h = own-magnitude N (left-false exceeds (ltb end m) h) a b
+    where
+      left-false : (c d : Bool) → c || d ≡ false → c ≡ false
+      left-false true d e = e
+      left-false false d e = refl
+
+  -- whether it is past the end
+  abbrev pub out : Bool
+  out = exceeds || ltb end m
+
+  pub refused-past : (range : OutOfRangeMode) → out && refusing range ≡ true → RangeApplied neg m exceeds t (integer s n) range OutOfRange
+  refused-past None h = record { fit = λ N x a b e. past-none s n neg x N (ltb-true _ _ (sym (past-told N a b) ∙ and-left out true h)) }
+  refused-past Clamp h = absurd (true≢false (sym (and-right out false h)))
+  refused-past Wrap h = absurd (true≢false (sym (and-right out false h)))
+
+  -- a magnitude that is past the end is clamped or wrapped, another one is stored
+  abbrev pub kept : OutOfRangeMode → ℕ
+  kept range = cond (out && clamping range) end m
+
+  abbrev pub told : OutOfRangeMode → Fared
+  told range = cond out (cond (clamping range) Clamped Wrapped) (byPick t)
+
+  pub stored-kept : (range : OutOfRangeMode) → out && refusing range ≡ false → (r : ℕ) (f : Fared) → r ≡ lowBits n (signed neg (kept range)) → f ≡ told range → RangeApplied neg m exceeds t (integer s n) range (Pattern r f)
+  stored-kept None h r f is g =
+      let q = and-false out h in record {
+        fit = λ N x a b e. ap₂ Pattern (is ∙ ap (λ (z : ℕ). lowBits n (signed neg z)) (ap (λ (p : Bool). cond (p && false) end m) q ∙ in-hand N a b q)) (g ∙ ap₂ (λ (p : Bool) (u : Ternary). cond p Wrapped (byPick u)) q e) ∙ fits-in s n neg x N None (ltb-false _ _ (sym (past-told N a b) ∙ q));
+      }
+  stored-kept Clamp h r f is g = record {
+    fit = λ N x a b e. ap₂ Pattern (is ∙ ap (λ (z : ℕ). lowBits n (signed neg z)) (ends-at N out (in-hand N a b))) (g ∙ ap (λ (u : Ternary). cond out Clamped (byPick u)) e) ∙ clamp-fits s n neg x N out (past-told N a b);
   }
+    where
+      ends-at : (N : ℕ) (p : Bool) → (p ≡ false → m ≡ N) → cond (p && true) end m ≡ cond p (endMag (integer s n) neg) N
+      ends-at N true f = ends
+      ends-at N false f = f refl
+  stored-kept Wrap h r f is g = record {
+    fit = λ N x a b e. ap₂ Pattern (is ∙ ap (λ (z : ℕ). lowBits n (signed neg z)) (own out ∙ a) ∙ low-bits-mod n neg N at-most) (g ∙ ap (λ (u : Ternary). cond out Wrapped (byPick u)) e) ∙ wrap-fits s n neg x N out (past-told N a b);
+  }
+    where
+      own : (p : Bool) → cond (p && false) end m ≡ m
+      own true = refl
+      own false = refl
 
 -- ---- the ends by the row
 module _ (f : IntegerFormat) (row : IntegerRow f) where

@@ -1,22 +1,26 @@
--- A magnitude rounded to p significant bits, as the float that a program computes.
+-- A magnitude rounded to p significant bits, as the float that a program computes, and the tests that tell where it lies.
 use mathlib.Core.Path.{_≡_, sym, ap, ap₂, subst, _∙_}
 use mathlib.Core.Bool.{Bool, true, false, cond}
 use Prim.Native.Nat.{ℕ, _+_, _-_, _*_, _/_, _%_, _^_, _≤_, _<_}
 use native.Mathlib.Nat.{mul-one, one-mul, zero-mul, div-add-mod', mod-lt, mod-eq-of-lt, le-trans}
 use native.Mathlib.Omega.{arith}
 use mir.Val.{boolByte}
+use lib.Dec.{eqb, ltb}
 use lib.Ieee.{Float, binary64, size, add, ofInt}
 use lib.Ieee.Digits.{size-lt, size-le}
 use lib.Ieee.Exact.{HasValue}
 use lib.IntN.{pos}
 use lib.Pow.{pow-pos, pow-mono, pow-lt, shr-lt}
 use Rattle.grid.specs.declared.RoundingMode.{RoundingMode}
+use Rattle.grid.specs.declared.Ternary.the-variants.{Exact}
 use Rattle.grid.specs.Grid.{float}
-use Rattle.grid.specs.Round.{step, pickMag}
+use Rattle.grid.specs.Round.{step, pickMag, ruleFor, signed}
+use Rattle.grid.specs.Ternary.{ternaryFor}
+use Rattle.grid.proofs.Sides.{exact-is, step-exact, step-larger}
 use Rattle.integers.specs.Precision.{Precision, stepsUp}
 use Rattle.integers.proofs.Steps.{step-by-up}
 use Rattle.integers.proofs.Sums.{ofInt-exact, add-exact}
-use Rattle.integers.proofs.Scale.{pick-few-bits, pick-many-bits}
+use Rattle.integers.proofs.Scale.{pick-itself, pick-many-bits}
 
 -- what exceeds the precision is dropped
 pub dropped : (p z m : ℕ) → z ≡ size m → p < z → p + (z - p) ≡ size m
@@ -28,8 +32,10 @@ module _ (p m : ℕ) (ok : Precision p) where
   few-bits r h =
       let l : m ≤ 2 ^ 53 = omega (arith, size-lt m, pow-mono {i = size m} {j = 53} (omega (arith, ok .at-most-53))) in
       let a = subst (λ (z : ℕ). HasValue (ofInt binary64 (pos z)) false z 1) (mul-one m) (ofInt-exact binary64 m 0 (omega arith) l) in
-      let b = subst (λ (z : ℕ). pickMag (float p 0) r z ≡ z) (mul-one m) (pick-few-bits p 0 r m 0 (omega arith) h) in
-      subst (λ (z : ℕ). HasValue (ofInt binary64 (pos m)) false z 1) (sym b) a
+      subst (λ (z : ℕ). HasValue (ofInt binary64 (pos m)) false z 1) (sym (pick-itself p r m h)) a
+
+  pub few-bits-exact : (neg : Bool) (r : RoundingMode) → size m ≤ p → Exact ≡ ternaryFor (float p 0) neg r m
+  few-bits-exact neg r h = sym (exact-is (signed neg m) (signed neg (pickMag (float p 0) (ruleFor neg r) m)) (ap (signed neg) (pick-itself p (ruleFor neg r) m h)))
 
   -- ---- k bits are dropped
   module _ (k : ℕ) (is : p + k ≡ size m) (word : m < 2 ^ 64) where
@@ -79,3 +85,17 @@ module _ (p m : ℕ) (ok : Precision p) where
         subst (λ (z : Float). HasValue z false (pickMag (float p 0) r m) 1)
         (sym (ap₂ (add binary64) (ex ∙ ap (λ (z : ℕ). ofInt binary64 (pos z)) kept-is) (ey ∙ ap (λ (z : ℕ). ofInt binary64 (pos z)) (added t))))
         (sum-is r t (e ∙ ap₂ (λ (i j : ℕ). stepsUp r (m / 2 ^ k) i j) rest-is unit-is))
+
+    -- the tests that tell where the pick lies
+    pub rest-exact : (r : RoundingMode) → eqb (m - m / 2 ^ k * 2 ^ k % 2 ^ 64) 0 ≡ eqb m (pickMag (float p 0) r m)
+    rest-exact r =
+        ap (λ (x : ℕ). eqb x 0) rest-is
+        ∙ sym (step-exact r (m / 2 ^ k) (m % 2 ^ k) (2 ^ k) (pow-pos k) (mod-lt m (pow-pos k)))
+        ∙ ap₂ eqb (div-add-mod' m (2 ^ k)) (sym (pick-many-bits p r m k is))
+
+    pub up-larger : (r : RoundingMode) (t : Bool) → t ≡ stepsUp r (m / 2 ^ k) (m - m / 2 ^ k * 2 ^ k % 2 ^ 64) (1 * 2 ^ k % 2 ^ 64) → t ≡ ltb m (pickMag (float p 0) r m)
+    up-larger r t e =
+        e
+        ∙ ap₂ (λ (i j : ℕ). stepsUp r (m / 2 ^ k) i j) rest-is unit-is
+        ∙ sym (step-larger r (m / 2 ^ k) (m % 2 ^ k) (2 ^ k) (pow-pos k) (mod-lt m (pow-pos k)))
+        ∙ ap₂ ltb (div-add-mod' m (2 ^ k)) (sym (pick-many-bits p r m k is))

@@ -1,19 +1,24 @@
 -- The pick of a whole number on a float's grid, in units of 1 and in units of 2 ^ k.
-use mathlib.Core.Path.{_≡_, sym, ap, subst, _∙_}
+use mathlib.Core.Path.{_≡_, sym, ap, ap₂, subst, _∙_}
 use mathlib.Core.Bool.{Bool}
 use Prim.Native.Nat.{ℕ, _+_, _-_, _*_, _/_, _%_, _^_, _≤_, _<_, max}
-use native.Mathlib.Nat.{zero-mul, div-add-mod', mul-mod-left, mul-assoc, pos-of-ne-zero, sub-add-cancel}
+use native.Mathlib.Nat.{mul-one, zero-mul, div-add-mod', mul-mod-left, mul-assoc, pos-of-ne-zero, sub-add-cancel}
 use native.Mathlib.Omega.{arith}
 use lib.Ieee.{size}
 use lib.Ieee.Digits.{size-lt, size-le}
 use lib.Pow.{pow-pos, pow-add, shl-lt}
 use Rattle.grid.specs.declared.RoundingMode.{RoundingMode}
+use Rattle.grid.specs.declared.Rounded.{Rounded}
+use Rattle.grid.specs.declared.Ternary.{Ternary}
+use Rattle.grid.specs.declared.Ternary.the-variants.{Exact}
 use Rattle.grid.specs.Grid.{Grid, float}
 use Rattle.grid.specs.Round.{unitExp, step, pickMag, pick, ruleFor, signed}
 use Rattle.grid.proofs.Neighbours.{cut}
 use Rattle.grid.proofs.Kept.{pick-shift, pick-signed, pick-zero}
 use Rattle.patterns.specs.Pattern.{magBits}
+use Rattle.grid.proofs.Sides.{exact-is}
 use Rattle.grid.proofs.Step.{step-no-rest}
+use Rattle.integers.specs.Precision.{roundedBits}
 
 -- ---- a whole number of units is picked itself
 pick-whole-units : (g : Grid) (r : RoundingMode) (n : ℕ) → n % 2 ^ unitExp g n ≡ 0 → pickMag g r n ≡ n
@@ -33,11 +38,14 @@ no-rest m j k h =
     ∙ mul-mod-left (m * 2 ^ (k - j)) (2 ^ j)
 
 -- m has no more bits than the grid keeps
-pub pick-few-bits : (p s : ℕ) (r : RoundingMode) (m k : ℕ) → s ≤ k → size m ≤ p → pickMag (float p s) r (m * 2 ^ k) ≡ m * 2 ^ k
+pick-few-bits : (p s : ℕ) (r : RoundingMode) (m k : ℕ) → s ≤ k → size m ≤ p → pickMag (float p s) r (m * 2 ^ k) ≡ m * 2 ^ k
 pick-few-bits p s r m k h l = pick-whole-units (float p s) r (m * 2 ^ k) (no-rest m (max s (size (m * 2 ^ k) - p)) k (least (size (m * 2 ^ k)) (size-le (m * 2 ^ k) (size m + k) (shl-lt (size m) k (size-lt m)))))
   where
     least : (z : ℕ) → z ≤ size m + k → max s (z - p) ≤ k
     least z b = omega (arith, h, l)
+
+pub pick-itself : (p : ℕ) (r : RoundingMode) (m : ℕ) → size m ≤ p → pickMag (float p 0) r m ≡ m
+pick-itself p r m l = subst (λ (z : ℕ). pickMag (float p 0) r z ≡ z) (mul-one m) (pick-few-bits p 0 r m 0 (omega arith) l)
 
 -- m's bits above the grid's precision, stepped by those below
 pub pick-many-bits : (p : ℕ) (r : RoundingMode) (m k : ℕ) → p + k ≡ size m → pickMag (float p 0) r m ≡ step r (m / 2 ^ k) (m % 2 ^ k) (2 ^ k) * 2 ^ k
@@ -58,7 +66,7 @@ pick-scale p s r m k h = cut p (size m)
     ∙ ap (λ (z : ℕ). step r (m / 2 ^ (z - k)) (m % 2 ^ (z - k)) (2 ^ (z - k)) * 2 ^ z) (unit (size m) l)
     ∙ ap (λ (z : ℕ). step r (m / 2 ^ z) (m % 2 ^ z) (2 ^ z) * 2 ^ (j + k)) (over j)
     ∙ c)
-    (λ (l : size m ≤ p). pick-few-bits p s r m k h l ∙ ap (λ (x : ℕ). x * 2 ^ k) (sym (at-one l)))
+    (λ (l : size m ≤ p). pick-few-bits p s r m k h l ∙ ap (λ (x : ℕ). x * 2 ^ k) (sym (pick-itself p r m l)))
   where
     some : (m : ℕ) → p < size m → 0 < m
     some m l = pos-of-ne-zero (λ (e : m ≡ 0). omega (arith, size-le m 0 (omega arith)))
@@ -69,12 +77,6 @@ pick-scale p s r m k h = cut p (size m)
     over : (j : ℕ) → j + k - k ≡ j
     over j = omega arith
 
-    at-one : size m ≤ p → pickMag (float p 0) r m ≡ m
-    at-one l = subst (λ (z : ℕ). pickMag (float p 0) r z ≡ z) (one m) (pick-few-bits p 0 r m 0 (omega arith) l)
-      where
-        one : (m : ℕ) → m * 2 ^ 0 ≡ m
-        one m = omega arith
-
 -- ---- with a sign
 pub pick-scale-signed : (p s : ℕ) → 2 ≤ p → (r : RoundingMode) (neg : Bool) (m k : ℕ) → s ≤ k → pick (float p s) r (signed neg (m * 2 ^ k)) ≡ signed neg (pickMag (float p 0) (ruleFor neg r) m * 2 ^ k)
 pick-scale-signed p s two r neg m k h = pick-signed (float p s) two r neg (m * 2 ^ k) ∙ ap (signed neg) (pick-scale p s (ruleFor neg r) m k h)
@@ -84,5 +86,9 @@ no-bits : (u : ℕ) → magBits 53 0 (0 * u) ≡ 0
 unfolding size
 no-bits u = ap (magBits 53 0) (zero-mul u)
 
-pub zero-bits : (p m : ℕ) → 2 ≤ p → (r : RoundingMode) → m ≡ 0 → 0 ≡ magBits 53 0 (pickMag (float p 0) r m * 2 ^ 1074)
-zero-bits p m two r e = sym (ap (λ (n : ℕ). magBits 53 0 (n * 2 ^ 1074)) (ap (pickMag (float p 0) r) e ∙ pick-zero (float p 0) two r) ∙ no-bits (2 ^ 1074))
+pub zero-rounded : (p m : ℕ) → 2 ≤ p → (neg : Bool) (r : RoundingMode) → m ≡ 0 → record { bits = 0; ternary = Exact } ≡ roundedBits p neg r m
+zero-rounded p m two neg r e =
+    let none : pickMag (float p 0) (ruleFor neg r) m ≡ 0 = ap (pickMag (float p 0) (ruleFor neg r)) e ∙ pick-zero (float p 0) two (ruleFor neg r) in
+    ap₂ {C = Rounded} (λ (b : ℕ) (t : Ternary). record { bits = b; ternary = t })
+    (sym (ap (λ (n : ℕ). magBits 53 0 (n * 2 ^ 1074)) none ∙ no-bits (2 ^ 1074)))
+    (sym (exact-is (signed neg m) (signed neg (pickMag (float p 0) (ruleFor neg r) m)) (ap (signed neg) (none ∙ sym e))))

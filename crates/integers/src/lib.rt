@@ -4,12 +4,15 @@ ghost use Prim.Native.Nat.{_*_, _^_, _<_};
 ghost use lib.Ieee.{size};
 ghost use Rattle.grid.specs.Grid.{float};
 ghost use Rattle.grid.specs.Round.{pick, pickMag, ruleFor, signed};
+ghost use Rattle.grid.specs.Ternary.{ternaryFor};
 ghost use Rattle.patterns.specs.Kind.{integer, f64};
 ghost use Rattle.grid.specs.declared.RoundingMode.the-variants.{NearestEven};
-ghost use Rattle.patterns.specs.Pattern.{magBits, patternOf};
+ghost use Rattle.patterns.specs.Pattern.{patternOf};
 ghost use Rattle.integers.specs.Magnitude.{IntegerPattern, magnitudeOf};
-ghost use Rattle.integers.specs.Precision.{Precision, Exactly, stepsUp};
+ghost use Rattle.integers.specs.Precision.{Precision, Exactly, stepsUp, roundedBits};
+use grid::Rounded;
 use grid::RoundingMode;
+use grid::Ternary;
 
 // A whole number by its magnitude, and whether it lies below zero.
 pub struct Integer {
@@ -53,27 +56,39 @@ fn rounds_up(mode: RoundingMode, negative: bool, q: u64, rest: u64, unit: u64) -
     }
 }
 
+// A magnitude rounded to some precision, as the f64 that is the pick, and where the pick lies.
+pub struct RoundedInteger {
+    pub magnitude: f64,
+    pub ternary: Ternary,
+}
+
 // The magnitude rounded to `precision` significant bits: its kept part, and one unit more where the rule says so, added with no rounding.
 pub fn round_int_to_precision(
     magnitude: u64,
     negative: bool,
     precision: u32,
     mode: RoundingMode,
-) -> f64
+) -> RoundedInteger
     requires { ⌜ Precision precision ⌝ }
-    ensures { λ r. ⌜ Exactly (pickMag (float precision 0) (ruleFor negative mode) magnitude) r ⌝ }
+    ensures { λ r. ⌜ Exactly (pickMag (float precision 0) (ruleFor negative mode) magnitude) (r .magnitude) × (r .ternary ≡ ternaryFor (float precision 0) negative mode magnitude) ⌝ }
 {
     let significant = significant_bits(magnitude);
     if significant <= precision {
-        return std::num::nearest_u64_to_f64(magnitude);
+        return RoundedInteger {
+            magnitude: std::num::nearest_u64_to_f64(magnitude),
+            ternary: Ternary::Exact,
+        };
     }
     let shift = significant - precision;
     let q = magnitude >> shift;
     let kept = q << shift;
-    let unit = 1u64 << shift;
-    let up = rounds_up(mode, negative, q, magnitude - kept, unit);
+    let rest = magnitude - kept;
+    let up = rounds_up(mode, negative, q, rest, 1u64 << shift);
     let more = (up as u64) << shift;
-    std::num::nearest_u64_to_f64(kept) + std::num::nearest_u64_to_f64(more)
+    RoundedInteger {
+        magnitude: std::num::nearest_u64_to_f64(kept) + std::num::nearest_u64_to_f64(more),
+        ternary: grid::ternary_of(rest == 0, up, negative),
+    }
 }
 
 // The f64 bits below the sign of the integer rounded once to `precision` significant bits. Zero is told first: a machine that is set to round downwards
@@ -83,20 +98,28 @@ pub fn int_to_f64_magnitude(
     negative: bool,
     precision: u32,
     mode: RoundingMode,
-) -> u64
+) -> Rounded
     requires { ⌜ Precision precision ⌝ }
-    ensures { λ r. ⌜ r ≡ magBits 53 0 (pickMag (float precision 0) (ruleFor negative mode) magnitude * 2 ^ 1074) ⌝ }
+    ensures { λ r. ⌜ r ≡ roundedBits precision negative mode magnitude ⌝ }
 {
     if magnitude == 0 {
-        return 0;
+        return Rounded {
+            bits: 0,
+            ternary: Ternary::Exact,
+        };
     }
-    f64::to_bits(round_int_to_precision(magnitude, negative, precision, mode))
+    let rounded = round_int_to_precision(magnitude, negative, precision, mode);
+    let ternary = rounded.ternary;
+    Rounded {
+        bits: f64::to_bits(rounded.magnitude),
+        ternary: ternary,
+    }
 }
 
 // The nearest f64 of an integer, halfway the even one. A zero keeps the sign that is given.
 pub fn nearest_f64(magnitude: u64, negative: bool) -> u64
     ensures { λ r. ⌜ r ≡ patternOf f64 negative (pick (float 53 0) NearestEven (signed negative (magnitude * 2 ^ 1074))) ⌝ }
 {
-    let bits = int_to_f64_magnitude(magnitude, negative, 53, RoundingMode::NearestEven);
-    bits + ((negative as u64) << 63)
+    let rounded = int_to_f64_magnitude(magnitude, negative, 53, RoundingMode::NearestEven);
+    rounded.bits + ((negative as u64) << 63)
 }

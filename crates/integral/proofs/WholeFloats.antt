@@ -1,4 +1,4 @@
--- A number of a float format rounded to a whole number is a number of that format, and has the pattern of the pick.
+-- A number of a float format rounded to a whole number is a number of that format, has the pattern of the pick, and lies where it does.
 use mathlib.Core.Path.{_≡_, refl, sym, ap, ap₂, subst, _∙_}
 use mathlib.Core.Bool.{Bool, false}
 use mathlib.Core.List.{[], _∷_}
@@ -13,11 +13,16 @@ use denote.Enum.Declared.{tagOf}
 use types.Run.{OneOf}
 use Rattle.grid.specs.Grid.{OnMag, float, whole}
 use Rattle.grid.specs.Round.{pickMag, ruleFor, signed}
+use Rattle.grid.specs.Ternary.{ternaryOf, ternaryFor}
+use Rattle.grid.specs.declared.Rounded.{Rounded}
 use Rattle.grid.specs.declared.RoundingMode.{RoundingMode}
 use Rattle.grid.specs.declared.RoundingMode.the-variants.{TowardsZero}
+use Rattle.grid.specs.declared.Ternary.{Ternary}
+use Rattle.grid.specs.declared.Ternary.the-variants.{Exact}
 use Rattle.grid.proofs.Kept.{pick-exact, pick-signed}
 use Rattle.grid.proofs.Neighbours.{cut, finer, pow-twice-pred}
 use Rattle.grid.proofs.Picked.{picked-pos, pickMag-mono}
+use Rattle.grid.proofs.Sides.{exact-is}
 use Rattle.patterns.specs.Float.{bitsMag, infBits}
 use Rattle.patterns.specs.Kind.{Kind, binary, integer, f64}
 use Rattle.patterns.specs.Pattern.{lowBits, magBits, patternOf, withSign}
@@ -35,6 +40,7 @@ use Rattle.rounding.specs.Rounding.{unitsOf}
 use Rattle.rounding.proofs.Units.{whole-times-unit}
 use Rattle.wrapping.proofs.Residues.{low-bits-mod}
 use Rattle.integral.specs.Integral.{roundedFrom, roundedOf, wrappedFrom, wrappedOf}
+use Rattle.integral.specs.Whole.{integralOf}
 
 -- ---- a magnitude of p significant bits below the spacing 1
 module _ (r : RoundingMode) (p m e : ℕ) (positive : 0 < p) (small : m < 2 ^ p) (below : e < 1074) where
@@ -93,16 +99,23 @@ module _ (r : RoundingMode) (x : Scaled) (canonical : Canonical x) where
       (λ (h : x .exponent < 1074). scaled-canonical (pickMag (whole 1074) r n) (whole-on r 53 0 n (lit< tt) (lit≤ tt) on-f64) (within-f64 h))
       (λ (h : 1074 ≤ x .exponent). subst Canonical (whole-already h) canonical)
 
+-- ---- the pick's magnitude, and where the pick lies
+pub integral-at : (neg : Bool) (mode : RoundingMode) (n : ℕ) (m : Scaled) (t : Ternary) → m ≡ scaledOf (pickMag (whole 1074) (ruleFor neg mode) n) → t ≡ ternaryFor (whole 1074) neg mode n → record { magnitude = m; ternary = t } ≡ integralOf neg mode n
+integral-at neg mode n m t e l = rw (e, l)
+
+pub whole-exact : (neg : Bool) (mode : RoundingMode) (m e : ℕ) → 1074 ≤ e → Exact ≡ ternaryFor (whole 1074) neg mode (m * 2 ^ e)
+whole-exact neg mode m e h = sym (exact-is _ _ (ap (signed neg) (pick-exact (whole 1074) tt (ruleFor neg mode) m e h)))
+
 -- ---- the pattern of the pick, of an element x that was read of the pattern b
 module _ (p w s : ℕ) (mode : RoundingMode) (b : ℕ) (x : Float) (is : x ≡ floatOf (binary p w s) b) where
   abbrev k : Kind
   k = binary p w s
 
   -- a class that is not `Finite`, as a program tells it: by the number of its variant
-  pub stays : OneOf (1 ∷ 2 ∷ []) (tagOf the-type (x .class)) → b ≡ roundedOf k mode b
+  pub stays : OneOf (1 ∷ 2 ∷ []) (tagOf the-type (x .class)) → record { bits = b; ternary = Exact } ≡ roundedOf k mode b
   stays t = go (valueOf k b) (subst (λ (f : Float). OneOf (1 ∷ 2 ∷ []) (tagOf the-type (f .class))) is t)
     where
-      go : (v : Value) → OneOf (1 ∷ 2 ∷ []) (tagOf the-type (classFor k b v)) → b ≡ roundedFrom k mode b v
+      go : (v : Value) → OneOf (1 ∷ 2 ∷ []) (tagOf the-type (classFor k b v)) → record { bits = b; ternary = Exact } ≡ roundedFrom k mode b v
       go (num y) t = absurd (⊎-elim (λ (e : _≡_ {A = ℕ} 0 1). omega arith) (λ (e : _≡_ {A = ℕ} 0 2). omega arith) t)
       go (inf neg) t = refl
       go nan t = refl
@@ -128,10 +141,14 @@ module _ (p w s : ℕ) (mode : RoundingMode) (b : ℕ) (x : Float) (is : x ≡ f
         (pickMag-mono (whole 1074) tt (ruleFor neg mode) _ _ (subst (λ (z : ℕ). z ≤ bitsMag p s (infBits p w - 1)) (abs-signed neg _) (largest-bits p w s _ (number-of-format p w s two positive b _ read-value .1))))
         (le-of-eq (ap natAbs (picked-pos (whole 1074) tt (ruleFor neg mode) (bitsMag p s (infBits p w - 1)) .itself top)))
 
-    pub rounded-pattern : withSign (w + p) neg (magBits p s P) ≡ roundedOf k mode b
+    pub rounded-pattern : (t : Ternary) → t ≡ ternaryFor (whole 1074) neg mode (m .significand * 2 ^ m .exponent) → record { bits = withSign (w + p) neg (magBits p s P); ternary = t } ≡ roundedOf k mode b
     unfolding patternOf
-    rounded-pattern =
-        ap₂ (λ (c : Bool) (z : ℕ). withSign (w + p) c (magBits p s z)) (ap (λ (f : Float). f .negative) is) (sym (ap natAbs (pick-signed (whole 1074) tt mode neg _) ∙ abs-signed neg P))
+    rounded-pattern t lies =
+        let n = m .significand * 2 ^ m .exponent in
+        let signed-pick = pick-signed (whole 1074) tt mode neg n in
+        ap₂ {C = Rounded} (λ (z : ℕ) (t : Ternary). record { bits = z; ternary = t })
+        (ap₂ (λ (c : Bool) (z : ℕ). withSign (w + p) c (magBits p s z)) (ap (λ (f : Float). f .negative) is) (sym (ap natAbs signed-pick ∙ abs-signed neg P)))
+        (lies ∙ ap (ternaryOf (signed neg n)) (sym signed-pick))
         ∙ ap (roundedFrom k mode b) (sym read-value)
 
     -- narrowed from its 53 bits, the whole number is the same

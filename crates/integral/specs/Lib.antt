@@ -1,1 +1,2 @@
 pub mod Integral
+pub mod Whole

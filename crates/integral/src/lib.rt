@@ -1,53 +1,84 @@
 // A float rounded to a whole number in its own format, and the lowest bits of an f64's whole part.
 ghost use mathlib.Core.Path.{_≡_};
 ghost use Prim.Native.Nat.{_*_, _^_, _<_, _≤_};
-ghost use Rattle.grid.specs.Grid.{whole};
-ghost use Rattle.grid.specs.Round.{pickMag, ruleFor};
 ghost use Rattle.patterns.specs.Kind.{f32, f64};
-ghost use Rattle.floats.specs.Form.{Canonical, scaledOf};
+ghost use Rattle.floats.specs.Form.{Canonical};
 ghost use Rattle.integral.specs.Integral.{roundedOf, wrappedOf};
+ghost use Rattle.integral.specs.Whole.{integralOf};
 use floats::Class;
 use floats::Scaled;
+use grid::Rounded;
 use grid::RoundingMode;
+use grid::Ternary;
 
-// A finite magnitude rounded to a whole number; from the exponent 1074 on, where the unit is 1, it is whole already.
-fn integral(x: Scaled, mode: RoundingMode, negative: bool) -> Scaled
-    requires { ⌜ Canonical x ⌝ }
-    ensures { λ r. ⌜ r ≡ scaledOf (pickMag (whole 1074) (ruleFor negative mode) (x .significand * 2 ^ x .exponent)) ⌝ }
-{
-    if 1074 <= x.exponent {
-        return x;
-    }
-    let whole = rounding::round_to_whole(x, mode, negative);
-    floats::normalize(whole.magnitude, 1074)
+// A finite magnitude that is a whole number, and where it lies beside the one that was rounded.
+struct WholeMagnitude {
+    magnitude: Scaled,
+    ternary: Ternary,
 }
 
-// An f64 rounded to a whole number, with its sign; an infinity and a NaN stay.
-pub fn round_with_mode_f64(b: u64, mode: RoundingMode) -> u64
+// A finite magnitude rounded to a whole number; from the exponent 1074 on, where the unit is 1, it is whole already.
+fn integral(x: Scaled, mode: RoundingMode, negative: bool) -> WholeMagnitude
+    requires { ⌜ Canonical x ⌝ }
+    ensures { λ r. ⌜ r ≡ integralOf negative mode (x .significand * 2 ^ x .exponent) ⌝ }
+{
+    if 1074 <= x.exponent {
+        return WholeMagnitude {
+            magnitude: x,
+            ternary: Ternary::Exact,
+        };
+    }
+    let whole = rounding::round_to_whole(x, mode, negative);
+    let ternary = whole.ternary;
+    WholeMagnitude {
+        magnitude: floats::normalize(whole.magnitude, 1074),
+        ternary: ternary,
+    }
+}
+
+// An f64 rounded to a whole number, with its sign, and where that lies; an infinity and a NaN stay.
+pub fn round_with_mode_f64(b: u64, mode: RoundingMode) -> Rounded
     ensures { λ r. ⌜ r ≡ roundedOf f64 mode b ⌝ }
 {
     let x = floats::read_f64(b);
     let negative = x.negative;
     let class = x.class;
     let Class::Finite(magnitude) = class else {
-        return b;
+        return Rounded {
+            bits: b,
+            ternary: Ternary::Exact,
+        };
     };
-    floats::sign_bit(negative, 63) + floats::finite_bits(integral(magnitude, mode, negative))
+    let whole = integral(magnitude, mode, negative);
+    let rounded = whole.magnitude;
+    let ternary = whole.ternary;
+    Rounded {
+        bits: floats::sign_bit(negative, 63) + floats::finite_bits(rounded),
+        ternary: ternary,
+    }
 }
 
 // An f32 likewise; the whole number has f32's precision, so writing it rounds nothing.
-pub fn round_with_mode_f32(b: u32, mode: RoundingMode) -> u32
+pub fn round_with_mode_f32(b: u32, mode: RoundingMode) -> Rounded
     ensures { λ r. ⌜ r ≡ roundedOf f32 mode b ⌝ }
 {
     let x = floats::read_f32(b);
     let negative = x.negative;
     let class = x.class;
     let Class::Finite(magnitude) = class else {
-        return b;
+        return Rounded {
+            bits: b as u64,
+            ternary: Ternary::Exact,
+        };
     };
     let whole = integral(magnitude, mode, negative);
-    let bits = narrowing::narrow_magnitude(whole, 24, 925, mode, negative);
-    (floats::sign_bit(negative, 31) + bits) as u32
+    let rounded = whole.magnitude;
+    let ternary = whole.ternary;
+    let written = narrowing::narrow_magnitude(rounded, 24, 925, mode, negative);
+    Rounded {
+        bits: floats::sign_bit(negative, 31) + written.bits,
+        ternary: ternary,
+    }
 }
 
 // The lowest bits of an f64's whole part, two's complement; 0 for an infinity and a NaN, which have none.

@@ -53,13 +53,13 @@ positionOf r = valuesOf r .position
 
 -- ---- of what the element at a position comes to: the refusal that it is, and 0 where it is stored
 abbrev pub outcomeNumber : Outcome → ℕ
-outcomeNumber (O.Stored b) = 0
+outcomeNumber (O.Stored b f) = 0
 outcomeNumber (O.NanOrInf v) = 5
 outcomeNumber (O.OutOfRange v lo hi) = 6
 outcomeNumber (O.FloatOutOfRange v lo hi) = 7
 
 abbrev pub outcomeValues : ℕ → Outcome → Values
-outcomeValues i (O.Stored b) = noValues
+outcomeValues i (O.Stored b f) = noValues
 outcomeValues i (O.NanOrInf v) = elementValues i v 0 0
 outcomeValues i (O.OutOfRange v lo hi) = elementValues i v (lowBits 64 lo) hi
 outcomeValues i (O.FloatOutOfRange v lo hi) = elementValues i v lo hi

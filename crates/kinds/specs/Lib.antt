@@ -1,3 +1,5 @@
 pub mod Codes
 pub mod Row
 pub mod Answer
+pub mod Counts
+pub mod Tally

@@ -7,7 +7,10 @@ ghost use Rattle.integers.specs.Magnitude.{IntegerPattern};
 ghost use Rattle.integers.specs.Precision.{Precision};
 use floats::Class;
 use floats::Float;
+use grid::Rounded;
 use grid::RoundingMode;
+use grid::Ternary;
+use kinds::Fared;
 use kinds::Fit;
 use kinds::Lookup;
 use kinds::OutOfRangeMode;
@@ -187,55 +190,49 @@ fn float_widths() {
 
 // ---- rounding to a whole number
 
+// Where a pick lies: at the element, below it or above it.
+fn put_ternary(t: Ternary) {
+    match t {
+        Ternary::Exact => text(b" ="),
+        Ternary::Below => text(b" <"),
+        Ternary::Above => text(b" >"),
+    }
+}
+
+// The bits of a pick, and where it lies.
+fn put_rounded(r: Rounded, width: usize) {
+    number(r.bits, width);
+    let ternary = r.ternary;
+    put_ternary(ternary);
+}
+
+fn round_64(b: u64, mode: RoundingMode) {
+    put_rounded(integral::round_with_mode_f64(b, mode), 16);
+}
+
 fn rounded_64(b: u64) {
     text(b"round_with_mode_f64");
     number(b, 16);
-    number(
-        integral::round_with_mode_f64(b, RoundingMode::NearestEven),
-        16,
-    );
-    number(
-        integral::round_with_mode_f64(b, RoundingMode::TowardsZero),
-        16,
-    );
-    number(
-        integral::round_with_mode_f64(b, RoundingMode::TowardsPositive),
-        16,
-    );
-    number(
-        integral::round_with_mode_f64(b, RoundingMode::TowardsNegative),
-        16,
-    );
-    number(
-        integral::round_with_mode_f64(b, RoundingMode::NearestAway),
-        16,
-    );
+    round_64(b, RoundingMode::NearestEven);
+    round_64(b, RoundingMode::TowardsZero);
+    round_64(b, RoundingMode::TowardsPositive);
+    round_64(b, RoundingMode::TowardsNegative);
+    round_64(b, RoundingMode::NearestAway);
     end();
+}
+
+fn round_32(b: u32, mode: RoundingMode) {
+    put_rounded(integral::round_with_mode_f32(b, mode), 8);
 }
 
 fn rounded_32(b: u32) {
     text(b"round_with_mode_f32");
     number(wide(b), 8);
-    number(
-        wide(integral::round_with_mode_f32(b, RoundingMode::NearestEven)),
-        8,
-    );
-    number(
-        wide(integral::round_with_mode_f32(b, RoundingMode::TowardsZero)),
-        8,
-    );
-    number(
-        wide(integral::round_with_mode_f32(b, RoundingMode::TowardsPositive)),
-        8,
-    );
-    number(
-        wide(integral::round_with_mode_f32(b, RoundingMode::TowardsNegative)),
-        8,
-    );
-    number(
-        wide(integral::round_with_mode_f32(b, RoundingMode::NearestAway)),
-        8,
-    );
+    round_32(b, RoundingMode::NearestEven);
+    round_32(b, RoundingMode::TowardsZero);
+    round_32(b, RoundingMode::TowardsPositive);
+    round_32(b, RoundingMode::TowardsNegative);
+    round_32(b, RoundingMode::NearestAway);
     end();
 }
 
@@ -257,9 +254,23 @@ fn whole_numbers() {
 
 // ---- one rounding to f32
 
+// How an element fared, by the first letter.
+fn put_fared(f: Fared) {
+    match f {
+        Fared::Mapped => text(b" m"),
+        Fared::Exact => text(b" e"),
+        Fared::Rounded => text(b" r"),
+        Fared::Clamped => text(b" c"),
+        Fared::Wrapped => text(b" w"),
+    }
+}
+
 fn put_fit(f: Fit) {
     match f {
-        Fit::Pattern(pattern) => number(pattern, 8),
+        Fit::Pattern { pattern, fared } => {
+            number(pattern, 8);
+            put_fared(fared);
+        }
         Fit::NotFinite => text(b" not-finite"),
         Fit::OutOfRange => text(b" out-of-range"),
     }
@@ -284,7 +295,7 @@ fn narrowed(b: u64) {
 fn integer(magnitude: u64, negative: bool, precision: u32, mode: RoundingMode)
     requires { ⌜ Precision precision ⌝ }
 {
-    number(
+    put_rounded(
         integers::int_to_f64_magnitude(magnitude, negative, precision, mode),
         16,
     );

@@ -12,6 +12,7 @@ use Rattle.kinds.specs.Answer.{positionOf}
 use Rattle.kinds.specs.Codes.{kindOf}
 use Rattle.kinds.specs.Row.{rowOf}
 use Rattle.kinds.specs.declared.Answer.{Answer}
+use Rattle.kinds.specs.declared.Reply.{Reply}
 use Rattle.kinds.specs.declared.KindRow.{KindRow}
 use Rattle.kinds.proofs.Listed.{row-width}
 use Rattle.cast_spec.specs.Chunk.{Inputs, inputs, answerOf, destinationOf}
@@ -72,7 +73,7 @@ module _ (src keys targets : List ℕ) (from to rounding range : ℕ) (work d : 
   abbrev I : Inputs
   I = inputs src (take size work) keys targets from to rounding range
 
-  module _ (r : Answer) (b : List ℕ) (done : Contract I r b) (kept : length b ≡ length (take size work)) where
+  module _ (r : Reply) (b : List ℕ) (done : Contract I r b) (kept : length b ≡ length (take size work)) where
     abbrev lent : List ℕ
     lent = take size (b ++ drop size work)
 
@@ -85,7 +86,7 @@ module _ (src keys targets : List ℕ) (from to rounding range : ℕ) (work d : 
     pub size-relent : size ≡ length lent
     size-relent = size-lent ∙ sym kept ∙ sym (ap length back)
 
-    pub report-asks : ReportFits d lent r n (y .bytes)
+    pub report-asks : ReportFits d lent (r .answer) n (y .bytes)
     report-asks = record {
       width = row-listed to (ask .to-listed) y ey;
       below-10000 = omega (arith, n-most);
@@ -97,12 +98,12 @@ module _ (src keys targets : List ℕ) (from to rounding range : ℕ) (work d : 
     same-size : size ≡ length src / width (kindOf from) * width (kindOf to)
     same-size = ap₂ (λ (p q : ℕ). length src / p * q) (row-width (kindOf from) x ex) (row-width (kindOf to) y ey)
 
-    reported : report r n (y .bytes) lent ≡ reportOf (chunkOf src keys targets from to rounding range)
+    reported : report (r .answer) n (y .bytes) lent ≡ reportOf (chunkOf src keys targets from to rounding range)
     reported =
-        ap (λ (l : List ℕ). report r n (y .bytes) l) (back ∙ done .bytes)
+        ap (λ (l : List ℕ). report (r .answer) n (y .bytes) l) (back ∙ done .bytes)
         ∙ ap (λ (a : Answer). report a n (y .bytes) (destinationOf I)) (done .answer)
         ∙ ap₂ (λ (p q : ℕ). report (answerOf I) (length src / p) q (destinationOf I)) (row-width (kindOf from) x ex) (row-width (kindOf to) y ey)
         ∙ same-report src (take size work) (replicate (length src / width (kindOf from) * width (kindOf to)) 0) keys targets from to rounding range (sym size-lent ∙ same-size ∙ sym (length-replicate (length src / width (kindOf from) * width (kindOf to)) 0))
 
-    pub call-reported : (q : ℕ) (d′ : List ℕ) → Wrote d 0 (report r n (y .bytes) lent) q d′ → Wrote d 0 (reportOf (chunkOf src keys targets from to rounding range)) q d′
+    pub call-reported : (q : ℕ) (d′ : List ℕ) → Wrote d 0 (report (r .answer) n (y .bytes) lent) q d′ → Wrote d 0 (reportOf (chunkOf src keys targets from to rounding range)) q d′
     call-reported q d′ w = subst (λ (z : List ℕ). Wrote d 0 z q d′) reported w

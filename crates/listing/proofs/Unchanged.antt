@@ -38,7 +38,7 @@ module _ (o : ℕ → Outcome) (w : ℕ) where
       same a n = omega arith
 
       go : (x : Outcome) → suc a ≤ shown (answerFrom o (suc a) n) (suc a + n) → a ≤ shown (answerNext x a (answerFrom o (suc a) n)) (a + suc n)
-      go (Stored b) h = let g = subst (λ (z : ℕ). suc a ≤ shown (answerFrom o (suc a) n) z) (same a n) h in omega arith
+      go (Stored b _) h = let g = subst (λ (z : ℕ). suc a ≤ shown (answerFrom o (suc a) n) z) (same a n) h in omega arith
       go (NanOrInf v) h = omega arith
       go (OutOfRange v lo hi) h = omega arith
       go (FloatOutOfRange v lo hi) h = omega arith
@@ -48,7 +48,7 @@ module _ (o : ℕ → Outcome) (w : ℕ) where
   position-before a (suc n) = go (o a) (position-before (suc a) n)
     where
       go : (x : Outcome) → positionOf (answerFrom o (suc a) n) ≤ suc a + n → positionOf (answerNext x a (answerFrom o (suc a) n)) ≤ a + suc n
-      go (Stored b) h = omega arith
+      go (Stored b _) h = omega arith
       go (NanOrInf v) h = omega arith
       go (OutOfRange v lo hi) h = omega arith
       go (FloatOutOfRange v lo hi) h = omega arith
@@ -89,7 +89,7 @@ module _ (o : ℕ → Outcome) (w : ℕ) where
 
       go : (x : Outcome) → suc a ≤ shown R (suc a + n) → lines w (W d) 0 (shown R (suc a + n) - suc a) ≡ lines w (W d′) 0 (shown R (suc a + n) - suc a)
           → lines w (bytesNext x w d (W d)) 0 (shown (answerNext x a R) (a + suc n) - a) ≡ lines w (bytesNext x w d′ (W d′)) 0 (shown (answerNext x a R) (a + suc n) - a)
-      go (Stored b) h e =
+      go (Stored b _) h e =
           ap (lines w (toLe w b ++ W d) 0) (count h)
           ∙ one b d (shown R (suc a + n) - suc a)
           ∙ ap (λ (z : List ℕ). line w (patternAt w (toLe w b ++ []) 0) ++ z) e

@@ -30,7 +30,7 @@ fn put_call(
     let n = src.len() / kinds::row_of(from).bytes;
     let w = kinds::row_of(to).bytes;
     let size = n * w;
-    let answer = chunk::convert(
+    let reply = chunk::convert(
         src,
         &mut work[..size],
         keys,
@@ -40,6 +40,7 @@ fn put_call(
         rounding,
         range,
     );
+    let answer = reply.answer;
     report::put_report(out, &work[..size], answer, n, w)
 }
 

@@ -1,15 +1,17 @@
--- Rounding the bits below a float's sign as one number: an even number of units more is kept as it is.
+-- Rounding the bits below a float's sign as one number: an even number of units more is kept as it is, and what is rounded lies alike.
 use mathlib.Core.Path.{_≡_, refl, sym, ap, ap₂, subst, _∙_}
 use mathlib.Core.Bool.{Bool, true, false, cond}
 use Prim.Native.Nat.{ℕ, suc, _+_, _-_, _*_, _/_, _%_, _^_, _≤_, _<_}
-use native.Mathlib.Nat.{div-add-mod', mod-lt, div-eq-of-lt-le, add-left-cancel, suc-add}
+use native.Mathlib.Nat.{add-left-cancel, div-add-mod', div-eq-of-lt-le, mod-lt, suc-add}
 use native.Mathlib.Omega.{arith}
 use lib.Dec.{ltb, eqb}
 use lib.Pow.{pow-pos}
 use Rattle.grid.specs.declared.RoundingMode.{RoundingMode}
 use Rattle.grid.specs.declared.RoundingMode.the-variants.{NearestEven, TowardsZero, TowardsPositive, TowardsNegative, NearestAway}
-use Rattle.grid.specs.Round.{step}
+use Rattle.grid.specs.Round.{signed, step}
+use Rattle.grid.specs.Ternary.{ternaryOf}
 use Rattle.grid.proofs.Neighbours.{as-units, pow-twice-pred}
+use Rattle.grid.proofs.Sides.{side-more}
 
 cond-add : (b : Bool) (x y c : ℕ) → cond b (x + c) (y + c) ≡ cond b x y + c
 cond-add true x y c = refl
@@ -51,3 +53,14 @@ fields-even a k h = ap (λ (z : ℕ). a * z % 2) (pow-twice-pred k h) ∙ twice 
 
 pub carried : (d j y : ℕ) → j ≤ d → (r : RoundingMode) (x m : ℕ) → y * 2 ^ d + m ≡ x → y * 2 ^ (d - j) % 2 ≡ 0 → step r (x / 2 ^ j) (x % 2 ^ j) (2 ^ j) ≡ step r (m / 2 ^ j) (m % 2 ^ j) (2 ^ j) + y * 2 ^ (d - j)
 carried d j y within r x m is even = subst (λ (z : ℕ). step r (z / 2 ^ j) (z % 2 ^ j) (2 ^ j) ≡ step r (m / 2 ^ j) (m % 2 ^ j) (2 ^ j) + y * 2 ^ (d - j)) (ap (λ (z : ℕ). z + m) (sym (as-units y d j within)) ∙ is) (joined m (y * 2 ^ (d - j)) (2 ^ j) (pow-pos j) r even)
+
+pub carried-side : (d j y : ℕ) → j ≤ d → (neg : Bool) (r : RoundingMode) (x m : ℕ) → y * 2 ^ d + m ≡ x → y * 2 ^ (d - j) % 2 ≡ 0
+    → ternaryOf (signed neg x) (signed neg (step r (x / 2 ^ j) (x % 2 ^ j) (2 ^ j) * 2 ^ j)) ≡ ternaryOf (signed neg m) (signed neg (step r (m / 2 ^ j) (m % 2 ^ j) (2 ^ j) * 2 ^ j))
+carried-side d j y within neg r x m is even =
+    let q = step r (m / 2 ^ j) (m % 2 ^ j) (2 ^ j) in
+    ap₂ (λ (a b : ℕ). ternaryOf (signed neg a) (signed neg b)) (sym is)
+    (ap (λ (z : ℕ). z * 2 ^ j) (carried d j y within r x m is even) ∙ apart q (y * 2 ^ (d - j)) (2 ^ j) ∙ ap (λ (z : ℕ). z + q * 2 ^ j) (sym (as-units y d j within)))
+    ∙ side-more neg m (q * 2 ^ j) (y * 2 ^ d)
+  where
+    apart : (a b c : ℕ) → (a + b) * c ≡ b * c + a * c
+    apart a b c = omega arith

@@ -1,5 +1,5 @@
 -- What a float comes to in a narrower format: a pick in range, one past it, an infinity and a NaN.
-use mathlib.Core.Path.{_≡_, refl, sym, ap, _∙_}
+use mathlib.Core.Path.{_≡_, refl, sym, ap, ap₂, _∙_}
 use mathlib.Core.Bool.{Bool, true, false, cond}
 use mathlib.Core.List.{[], _∷_}
 use mathlib.Core.Logic.{⊎-elim}
@@ -12,7 +12,9 @@ use types.Run.{OneOf}
 use borrow.Author.Tests.{le-ltb, lt-ltb, ne-eqb}
 use Rattle.grid.specs.Grid.{float}
 use Rattle.grid.specs.Round.{pick, pickMag, ruleFor, signed}
+use Rattle.grid.specs.Ternary.{ternaryOf, ternaryFor}
 use Rattle.grid.specs.declared.RoundingMode.{RoundingMode}
+use Rattle.grid.specs.declared.Ternary.{Ternary}
 use Rattle.grid.proofs.Kept.{pick-signed}
 use Rattle.grid.proofs.Neighbours.{cut}
 use Rattle.grid.proofs.Picked.{picked-pos}
@@ -21,6 +23,8 @@ use Rattle.patterns.specs.Kind.{Kind, InRange, binary, f64}
 use Rattle.patterns.specs.Value.{negative}
 use Rattle.patterns.specs.Pattern.{infinity, magBits, nanPattern, patternOf, quiet, withSign}
 use Rattle.patterns.proofs.Floats.{abs-signed, bits-in-range, bits-past-range, mag-back, sign-is}
+use Rattle.kinds.specs.Counts.{byPick}
+use Rattle.kinds.specs.declared.Fared.the-variants.{Exact}
 use Rattle.kinds.specs.declared.OutOfRangeMode.{OutOfRangeMode}
 use Rattle.kinds.specs.declared.OutOfRangeMode.the-variants.{None, Clamp, Wrap}
 use Rattle.kinds.specs.declared.Outcome.{Outcome}
@@ -38,12 +42,12 @@ use Rattle.cast_spec.specs.Fit.{fitOf, fitNumber}
 use Rattle.narrowing.specs.Fit.{overrunFit, fitBits, fitClass, fitFloat}
 
 -- ---- a pick in range is stored, and one past it goes as the range choice says
-module _ (k : Kind) (range : OutOfRangeMode) (v : ℕ) (neg : Bool) (y : ℤ) where
-  pub in-range-stored : InRange k y → ranged k range v neg y ≡ Stored (patternOf k neg y)
-  in-range-stored h = by-range (λ (o : Outcome). ranged k range v neg y ≡ o) k y (Stored (patternOf k neg y)) (beyond k range v neg y) refl .0 h
+module _ (k : Kind) (range : OutOfRangeMode) (v : ℕ) (neg : Bool) (x y : ℤ) where
+  pub in-range-stored : InRange k y → ranged k range v neg x y ≡ Stored (patternOf k neg y) (byPick (ternaryOf x y))
+  in-range-stored h = by-range (λ (o : Outcome). ranged k range v neg x y ≡ o) k y (Stored (patternOf k neg y) (byPick (ternaryOf x y))) (beyond k range v neg y) refl .0 h
 
-  past-range-beyond : (InRange k y → ⊥) → ranged k range v neg y ≡ beyond k range v neg y
-  past-range-beyond n = by-range (λ (o : Outcome). ranged k range v neg y ≡ o) k y (Stored (patternOf k neg y)) (beyond k range v neg y) refl .1 n
+  past-range-beyond : (InRange k y → ⊥) → ranged k range v neg x y ≡ beyond k range v neg y
+  past-range-beyond n = by-range (λ (o : Outcome). ranged k range v neg x y ≡ o) k y (Stored (patternOf k neg y) (byPick (ternaryOf x y))) (beyond k range v neg y) refl .1 n
 
 -- past the range of a float kind
 past-fit : (p w s : ℕ) (neg : Bool) (y : ℤ) (range : OutOfRangeMode) → overrunFit p w neg range ≡ fitOf (beyond (binary p w s) range 0 neg y)
@@ -53,46 +57,48 @@ past-fit p w s neg y Clamp = refl
 past-fit p w s neg y Wrap = refl
 
 -- ---- the two sides of an infinity's bits
-module _ (p w : ℕ) (neg : Bool) (range : OutOfRangeMode) where
-  pub bits-fit : (r : ℕ) → r < infBits p w → Pattern (withSign (w + p) neg r) ≡ fitBits p w neg range r
-  bits-fit r h = sym (ap (λ (c : Bool). cond c (Pattern (withSign (w + p) neg r)) (overrunFit p w neg range)) (lt-ltb r (infBits p w) h))
+module _ (p w : ℕ) (neg : Bool) (range : OutOfRangeMode) (r : ℕ) (t : Ternary) where
+  pub bits-fit : r < infBits p w → Pattern (withSign (w + p) neg r) (byPick t) ≡ fitBits p w neg range r t
+  bits-fit h = sym (ap (λ (c : Bool). cond c (Pattern (withSign (w + p) neg r) (byPick t)) (overrunFit p w neg range)) (lt-ltb r (infBits p w) h))
 
-  pub overrun-fit : (r : ℕ) → infBits p w ≤ r → overrunFit p w neg range ≡ fitBits p w neg range r
-  overrun-fit r h = sym (ap (λ (c : Bool). cond c (Pattern (withSign (w + p) neg r)) (overrunFit p w neg range)) (le-ltb r (infBits p w) h))
+  pub overrun-fit : infBits p w ≤ r → overrunFit p w neg range ≡ fitBits p w neg range r t
+  overrun-fit h = sym (ap (λ (c : Bool). cond c (Pattern (withSign (w + p) neg r) (byPick t)) (overrunFit p w neg range)) (le-ltb r (infBits p w) h))
 
 pub refused-fit : (p w : ℕ) (neg : Bool) (range : OutOfRangeMode) → (range ≡ Clamp → ⊥) → OutOfRange ≡ overrunFit p w neg range
 refused-fit p w neg None other = refl
 refused-fit p w neg Clamp other = absurd (other refl)
 refused-fit p w neg Wrap other = refl
 
--- ---- a finite magnitude n of the sign neg, by the bits r of its pick
-module _ (p w s : ℕ) (two : 2 ≤ p) (some : 0 < w) (mode : RoundingMode) (range : OutOfRangeMode) (neg : Bool) (n r : ℕ) (is : r ≡ magBits p s (pickMag (float p s) (ruleFor neg mode) n)) where
+-- ---- a finite magnitude n of the sign neg, by the bits r of its pick and where that lies
+module _ (p w s : ℕ) (two : 2 ≤ p) (some : 0 < w) (mode : RoundingMode) (range : OutOfRangeMode) (neg : Bool) (n r : ℕ) (is : r ≡ magBits p s (pickMag (float p s) (ruleFor neg mode) n)) (t : Ternary) (lies : t ≡ ternaryFor (float p s) neg mode n) where
   abbrev k : Kind
   k = binary p w s
+
+  abbrev x : ℤ
+  x = signed neg n
+
+  abbrev y : ℤ
+  y = signed neg (bitsMag p s r)
 
   magnitude : bitsMag p s r ≡ pickMag (float p s) (ruleFor neg mode) n
   magnitude = ap (bitsMag p s) is ∙ mag-back p w s two some _ (picked-pos (float p s) two (ruleFor neg mode) n .on)
 
-  picked-bits : pick (float p s) mode (signed neg n) ≡ signed neg (bitsMag p s r)
+  picked-bits : pick (float p s) mode x ≡ y
   picked-bits = pick-signed (float p s) two mode neg n ∙ ap (signed neg) (sym magnitude)
 
-  fit-is : (o : Outcome) → ranged k range 0 neg (signed neg (bitsMag p s r)) ≡ o → fitOf o ≡ fitNumber k mode range neg (signed neg n)
-  fit-is o e = ap fitOf (sym (ap (ranged k range 0 neg) picked-bits ∙ e))
+  fit-is : (o : Outcome) → ranged k range 0 neg x y ≡ o → fitOf o ≡ fitNumber k mode range neg x
+  fit-is o e = ap fitOf (sym (ap (ranged k range 0 neg x) picked-bits ∙ e))
 
-  stored : r < infBits p w → ranged k range 0 neg (signed neg (bitsMag p s r)) ≡ Stored (withSign (w + p) neg r)
+  stored : r < infBits p w → ranged k range 0 neg x y ≡ Stored (withSign (w + p) neg r) (byPick t)
   unfolding patternOf
   stored h =
-      in-range-stored k range 0 neg (signed neg (bitsMag p s r)) (bits-in-range p w s two some neg r h)
-      ∙ ap (λ (z : ℕ). Stored (withSign (w + p) neg (magBits p s z))) (abs-signed neg (bitsMag p s r) ∙ magnitude)
-      ∙ ap (λ (z : ℕ). Stored (withSign (w + p) neg z)) (sym is)
+      in-range-stored k range 0 neg x y (bits-in-range p w s two some neg r h)
+      ∙ ap₂ (λ (b : ℕ) (u : Ternary). Stored (withSign (w + p) neg b) (byPick u)) (ap (magBits p s) (abs-signed neg (bitsMag p s r) ∙ magnitude) ∙ sym is) (ap (λ (z : ℕ). ternaryOf x (signed neg z)) magnitude ∙ sym lies)
 
-  past : infBits p w ≤ r → ranged k range 0 neg (signed neg (bitsMag p s r)) ≡ beyond k range 0 neg (signed neg (bitsMag p s r))
-  past h = past-range-beyond k range 0 neg (signed neg (bitsMag p s r)) (bits-past-range p w s two some neg r h)
-
-  pub number-fit : fitBits p w neg range r ≡ fitNumber k mode range neg (signed neg n)
+  pub number-fit : fitBits p w neg range r t ≡ fitNumber k mode range neg x
   number-fit = cut r (infBits p w)
-      (λ (h : r < infBits p w). sym (bits-fit p w neg range r h) ∙ fit-is (Stored (withSign (w + p) neg r)) (stored h))
-      (λ (h : infBits p w ≤ r). sym (overrun-fit p w neg range r h) ∙ past-fit p w s neg (signed neg (bitsMag p s r)) range ∙ fit-is (beyond k range 0 neg (signed neg (bitsMag p s r))) (past h))
+      (λ (h : r < infBits p w). sym (bits-fit p w neg range r t h) ∙ fit-is (Stored (withSign (w + p) neg r) (byPick t)) (stored h))
+      (λ (h : infBits p w ≤ r). sym (overrun-fit p w neg range r t h) ∙ past-fit p w s neg y range ∙ fit-is (beyond k range 0 neg y) (past-range-beyond k range 0 neg x y (bits-past-range p w s two some neg r h)))
 
 -- ---- by the class
 module _ (p w s : ℕ) (mode : RoundingMode) (range : OutOfRangeMode) (f : Float) where
@@ -100,10 +106,10 @@ module _ (p w s : ℕ) (mode : RoundingMode) (range : OutOfRangeMode) (f : Float
   finite-fit x e = ap (fitClass (binary p w s) mode range f) (sym e)
 
   -- a class that is neither `Finite` nor `NotANumber`, as a program tells it: by the number of its variant
-  pub infinite-fit : OneOf (1 ∷ 2 ∷ []) (tagOf the-type (f .class)) → OneOf (0 ∷ 1 ∷ []) (tagOf the-type (f .class)) → Pattern (infinity p w (f .negative)) ≡ fitFloat (binary p w s) mode range f
+  pub infinite-fit : OneOf (1 ∷ 2 ∷ []) (tagOf the-type (f .class)) → OneOf (0 ∷ 1 ∷ []) (tagOf the-type (f .class)) → Pattern (infinity p w (f .negative)) Exact ≡ fitFloat (binary p w s) mode range f
   infinite-fit = go (f .class)
     where
-      go : (c : Class) → OneOf (1 ∷ 2 ∷ []) (tagOf the-type c) → OneOf (0 ∷ 1 ∷ []) (tagOf the-type c) → Pattern (infinity p w (f .negative)) ≡ fitClass (binary p w s) mode range f c
+      go : (c : Class) → OneOf (1 ∷ 2 ∷ []) (tagOf the-type c) → OneOf (0 ∷ 1 ∷ []) (tagOf the-type c) → Pattern (infinity p w (f .negative)) Exact ≡ fitClass (binary p w s) mode range f c
       go (Finite m) t u = absurd (⊎-elim (λ (e : _≡_ {A = ℕ} 0 1). omega arith) (λ (e : _≡_ {A = ℕ} 0 2). omega arith) t)
       go Infinite t u = refl
       go (NotANumber m) t u = absurd (⊎-elim (λ (e : _≡_ {A = ℕ} 2 0). omega arith) (λ (e : _≡_ {A = ℕ} 2 1). omega arith) u)
@@ -123,10 +129,10 @@ module _ (p w s : ℕ) (mode : RoundingMode) (range : OutOfRangeMode) (f : Float
         go true = omega arith
         go false = omega arith
 
-    pub nan-fit : p < 53 → Pattern (withSign (w + p) (f .negative) (infBits p w + quiet 53 p t)) ≡ fitFloat (binary p w s) mode range f
+    pub nan-fit : p < 53 → Pattern (withSign (w + p) (f .negative) (infBits p w + quiet 53 p t)) Exact ≡ fitFloat (binary p w s) mode range f
     unfolding nanPattern
     nan-fit less =
         sym (simp (ne-eqb 53 p (λ (z : 53 ≡ p). omega arith))
-        (ap (λ (b : Bool). Pattern (withSign (w + p) b (infBits p w + quiet 53 p (f64Of f)))) nan-sign
-        ∙ ap (λ (z : ℕ). Pattern (withSign (w + p) (f .negative) (infBits p w + (2 ^ (p - 2) + z * 2 ^ (p - 1) / 2 ^ 52 % 2 ^ (p - 2))))) nan-fraction))
+        (ap (λ (b : Bool). Pattern (withSign (w + p) b (infBits p w + quiet 53 p (f64Of f))) Exact) nan-sign
+        ∙ ap (λ (z : ℕ). Pattern (withSign (w + p) (f .negative) (infBits p w + (2 ^ (p - 2) + z * 2 ^ (p - 1) / 2 ^ 52 % 2 ^ (p - 2)))) Exact) nan-fraction))
         ∙ ap (fitClass (binary p w s) mode range f) (sym e)

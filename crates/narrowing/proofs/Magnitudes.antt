@@ -1,18 +1,23 @@
--- The bits below the sign of a finite magnitude rounded to a narrower format, where its numbers are normal and where they are not.
+-- The bits below the sign of a finite magnitude rounded to a narrower format, and where they lie: where its numbers are normal, and where they are not.
 use mathlib.Core.Path.{_≡_, refl, sym, ap, ap₂, subst, _∙_}
+use mathlib.Core.Bool.{Bool, false}
 use Prim.Native.Nat.{max, min, ℕ, _+_, _-_, _*_, _/_, _%_, _^_, _≤_, _<_}
-use native.Mathlib.Nat.{add-comm, div-lt-iff-lt-mul, le-add-right, le-antisymm, le-trans, lt-of-lt-of-le, mod-eq-of-lt, mul-le-mul-right, zero-add}
+use native.Mathlib.Nat.{add-comm, div-lt-iff-lt-mul, le-add-right, le-antisymm, le-trans, mod-eq-of-lt, mul-le-mul-right, zero-add}
 use native.Mathlib.Omega.{arith}
 use borrow.Author.Tests.{ne-eqb}
 use lib.Dec.{lit<, lit≤}
 use lib.Ieee.{size}
 use lib.Ieee.Digits.{size-lt, size-le}
 use lib.IntN.{natAbs}
-use lib.Pow.{pow-add, pow-mono, pow-pos, shl-lt}
+use lib.Pow.{pow-add, pow-mono, pow-pos}
 use Rattle.grid.specs.declared.RoundingMode.{RoundingMode}
 use Rattle.grid.specs.declared.RoundingMode.the-variants.{TowardsZero}
+use Rattle.grid.specs.declared.Rounded.{Rounded}
+use Rattle.grid.specs.declared.Ternary.{Ternary}
 use Rattle.grid.specs.Grid.{OnMag, float, whole}
-use Rattle.grid.specs.Round.{pickMag, step}
+use Rattle.grid.specs.Round.{pickMag, ruleFor, signed, step}
+use Rattle.grid.specs.Ternary.{ternaryOf, ternaryFor}
+use Rattle.grid.proofs.Kept.{pick-shift}
 use Rattle.grid.proofs.Neighbours.{cut, finer}
 use Rattle.grid.proofs.Picked.{picked-pos}
 use Rattle.grid.proofs.Step.{step-le}
@@ -24,10 +29,11 @@ use Rattle.patterns.proofs.Floats.{bits-again, mag-back}
 use Rattle.floats.specs.Form.{Canonical, CanonicalClass, scaledOf}
 use Rattle.floats.specs.declared.Class.the-variants.{Finite}
 use Rattle.floats.proofs.Values.{scaled-bits, scaled-whole}
-use Rattle.rounding.specs.Rounding.{Droppable, unitsOf}
-use Rattle.rounding.proofs.Units.{over-unit, whole-times-unit, below-unit}
-use Rattle.narrowing.specs.Format.{Narrower, Rebiasable, rebiased}
-use Rattle.narrowing.proofs.Carried.{fields-even, carried}
+use Rattle.rounding.specs.Rounding.{Droppable, shifted, unitsOf}
+use Rattle.rounding.proofs.Units.{over-unit, whole-times-unit, below-power, below-unit, unit-side}
+use Rattle.narrowing.specs.Format.{Narrower, Rebiasable, narrowed, rebiased}
+use Rattle.grid.proofs.Sides.{side-power}
+use Rattle.narrowing.proofs.Carried.{fields-even, carried, carried-side}
 
 -- ---- a number so small that the grid's spacing there is the smallest: its bits count that spacing
 module _ (r : RoundingMode) (p s n : ℕ) (two : 2 ≤ p) (near : n < 2 ^ (p + s)) where
@@ -51,35 +57,51 @@ module _ (r : RoundingMode) (p s n : ℕ) (two : 2 ≤ p) (near : n < 2 ^ (p + s
       none h q = omega arith
 
 -- ---- a number whose narrowed form is normal: the low bits are dropped from its field and its significand as one number
-module _ (r : RoundingMode) (p drop base m y : ℕ) (two : 2 ≤ p) (less : 0 < drop) (fill : p + drop ≡ 53) (small : m < 2 ^ 53) (full : 2 ^ 52 ≤ m) (reach : base ≤ y) where
+module _ (r : RoundingMode) (p s drop base m y : ℕ) (two : 2 ≤ p) (less : 0 < drop) (fill : p + drop ≡ 53) (start : base + drop ≡ s) (small : m < 2 ^ 53) (full : 2 ^ 52 ≤ m) (reach : base ≤ y) where
   size-m : size m ≡ 53
   size-m = le-antisymm (size-le m 53 small) (cut (size m) 53 (λ (l : size m < 53). let k : 2 ^ size m ≤ 2 ^ 52 = pow-mono {j = 52} (omega arith) in absurd (omega (arith, size-lt m))) (λ l. l))
+
+  abbrev K : ℕ
+  K = max s (size m + y - p)
+
+  spacing : K ≡ drop + y
+  spacing = omega (arith, size-m)
 
   abbrev x : ℕ
   x = (y - base) * 2 ^ 52 + m
 
-  normal-narrowed : bitsMag p (base + drop) (step r (x / 2 ^ drop) (x % 2 ^ drop) (2 ^ drop)) ≡ pickMag (float p (base + drop)) r (m * 2 ^ y)
-  normal-narrowed =
-      let s = base + drop in
-      let K = max s (size m + y - p) in
-      let k : K ≡ y + drop = omega (arith, size-m) in
+  normal-bits : bitsMag p s (step r (x / 2 ^ drop) (x % 2 ^ drop) (2 ^ drop)) ≡ pickMag (float p s) r (m * 2 ^ y)
+  normal-bits =
       ap (bitsMag p s)
       (carried 52 drop (y - base) (omega arith) r x m refl (fields-even (y - base) (52 - drop) (omega arith))
       ∙ add-comm (step r (m / 2 ^ drop) (m % 2 ^ drop) (2 ^ drop)) ((y - base) * 2 ^ (52 - drop)))
-      ∙ ap₂ (λ (a b : ℕ). bitsMag p s (a * 2 ^ b + step r (m / 2 ^ drop) (m % 2 ^ drop) (2 ^ drop))) (omega (arith, k)) (omega arith)
-      ∙ ap (λ (j : ℕ). bitsMag p s ((K - s) * 2 ^ (p - 1) + step r (m / 2 ^ j) (m % 2 ^ j) (2 ^ j))) (omega (arith, k))
-      ∙ float-law p s m y two (omega arith) (omega (arith, k)) r
+      ∙ ap₂ (λ (a b : ℕ). bitsMag p s (a * 2 ^ b + step r (m / 2 ^ drop) (m % 2 ^ drop) (2 ^ drop))) (omega (arith, spacing)) (omega arith)
+      ∙ ap (λ (j : ℕ). bitsMag p s ((K - s) * 2 ^ (p - 1) + step r (m / 2 ^ j) (m % 2 ^ j) (2 ^ j))) (omega (arith, spacing))
+      ∙ float-law p s m y two (omega arith) (omega (arith, spacing)) r
+
+  normal-pick : pickMag (float p s) r (m * 2 ^ y) ≡ step r (m / 2 ^ drop) (m % 2 ^ drop) (2 ^ drop) * 2 ^ (drop + y)
+  normal-pick =
+      pick-shift (float p s) r m y (omega arith) (omega (arith, spacing))
+      ∙ ap₂ (λ (i j : ℕ). step r (m / 2 ^ i) (m % 2 ^ i) (2 ^ i) * 2 ^ j) (omega (arith, spacing)) spacing
+
+  normal-side : (neg : Bool) → ternaryOf (signed neg x) (signed neg (step r (x / 2 ^ drop) (x % 2 ^ drop) (2 ^ drop) * 2 ^ drop)) ≡ ternaryOf (signed neg (m * 2 ^ y)) (signed neg (pickMag (float p s) r (m * 2 ^ y)))
+  normal-side neg =
+      carried-side 52 drop (y - base) (omega arith) neg r x m refl (fields-even (y - base) (52 - drop) (omega arith))
+      ∙ side-power neg m (step r (m / 2 ^ drop) (m % 2 ^ drop) (2 ^ drop)) drop y
+      ∙ ap (λ (z : ℕ). ternaryOf (signed neg (m * 2 ^ y)) (signed neg z)) (sym normal-pick)
 
 -- ---- what a program has in hand
-module _ (r : RoundingMode) (m e p s : ℕ) (ask : Canonical (record { significand = m; exponent = e })) (narrower : Narrower p s) where
+module _ (neg : Bool) (mode : RoundingMode) (m e p s : ℕ) (ask : Canonical (record { significand = m; exponent = e })) (narrower : Narrower p s) where
   abbrev drop : ℕ
   drop = 53 - p
 
   abbrev base : ℕ
   base = s - (53 - p)
 
-  bits-of : (n : ℕ) → bitsMag p s n ≡ pickMag (float p s) r (m * 2 ^ e) → n ≡ magBits p s (pickMag (float p s) r (m * 2 ^ e))
-  bits-of n h = sym (bits-again p 1 s (narrower .two) (lit< tt) n) ∙ ap (magBits p s) h
+  -- units whose number is the pick, and that lie where it does
+  rounded-of : (x j : ℕ) → let q = step (ruleFor neg mode) (x / 2 ^ j) (x % 2 ^ j) (2 ^ j) in bitsMag p s q ≡ pickMag (float p s) (ruleFor neg mode) (m * 2 ^ e)
+      → ternaryOf (signed neg x) (signed neg (q * 2 ^ j)) ≡ ternaryFor (float p s) neg mode (m * 2 ^ e) → shifted neg mode x j ≡ narrowed p s neg mode (m * 2 ^ e)
+  rounded-of x j b t = ap₂ {C = Rounded} (λ (b : ℕ) (t : Ternary). record { bits = b; ternary = t }) (sym (bits-again p 1 s (narrower .two) (lit< tt) _) ∙ ap (magBits p s) b) t
 
   module _ (reach : base ≤ e) where
     field-fits : (e - base) * 2 ^ 52 % 2 ^ 64 ≡ (e - base) * 2 ^ 52
@@ -88,24 +110,27 @@ module _ (r : RoundingMode) (m e p s : ℕ) (ask : Canonical (record { significa
     pub normal-drops : Droppable ((e - base) * 2 ^ 52 % 2 ^ 64 + m) drop
     normal-drops = record { positive = omega (arith, narrower .fewer); below-64 = omega arith; fits = omega (arith, ask .small, ask .finite, field-fits, pow-mono {i = 53 - p} {j = 52} (omega (arith, narrower .two))) }
 
-    pub normal-bits : (n : ℕ) → n ≡ step r (((e - base) * 2 ^ 52 % 2 ^ 64 + m) / 2 ^ drop) (((e - base) * 2 ^ 52 % 2 ^ 64 + m) % 2 ^ drop) (2 ^ drop) → n ≡ magBits p s (pickMag (float p s) r (m * 2 ^ e))
-    normal-bits n h = bits-of n
-        (ap (bitsMag p s) (h ∙ ap (λ (z : ℕ). step r ((z + m) / 2 ^ drop) ((z + m) % 2 ^ drop) (2 ^ drop)) field-fits)
-        ∙ subst (λ (t : ℕ). bitsMag p t (step r (((e - base) * 2 ^ 52 + m) / 2 ^ drop) (((e - base) * 2 ^ 52 + m) % 2 ^ drop) (2 ^ drop)) ≡ pickMag (float p t) r (m * 2 ^ e)) spacing
-        (normal-narrowed r p drop base m e (narrower .two) (omega (arith, narrower .fewer)) (omega (arith, narrower .fewer)) (ask .small) (ask .leading (omega (arith, narrower .coarser))) reach))
-      where
-        spacing : base + drop ≡ s
-        spacing = omega (arith, narrower .coarser)
+    pub normal-rounded : shifted neg mode ((e - base) * 2 ^ 52 % 2 ^ 64 + m) drop ≡ narrowed p s neg mode (m * 2 ^ e)
+    normal-rounded =
+        let r = ruleFor neg mode in
+        let less : 0 < drop = omega (arith, narrower .fewer) in
+        let fill : p + drop ≡ 53 = omega (arith, narrower .fewer) in
+        let start : base + drop ≡ s = omega (arith, narrower .coarser) in
+        let full = ask .leading (omega (arith, narrower .coarser)) in
+        ap (λ (z : ℕ). shifted neg mode (z + m) drop) field-fits
+        ∙ rounded-of ((e - base) * 2 ^ 52 + m) drop (normal-bits r p s drop base m e (narrower .two) less fill start (ask .small) full reach) (normal-side r p s drop base m e (narrower .two) less fill start (ask .small) full reach neg)
 
   module _ (under : e < base) (j : ℕ) (is : j ≡ min (s - e) 63) where
     pub low-drops : Droppable m j
     low-drops = record { positive = omega arith; below-64 = omega arith; fits = omega (arith, ask .small, pow-mono {i = j} {j = 63} (omega arith)) }
 
-    pub low-bits : (n : ℕ) → n ≡ step r (m / 2 ^ j) (m % 2 ^ j) (2 ^ j) → n ≡ magBits p s (pickMag (float p s) r (m * 2 ^ e))
-    low-bits n h = bits-of n (ap (bitsMag p s) (h ∙ below-unit r s m e j (ask .small) (omega arith) is) ∙ units-bits r p s (m * 2 ^ e) (narrower .two) near)
-      where
-        near : m * 2 ^ e < 2 ^ (p + s)
-        near = lt-of-lt-of-le (shl-lt 53 e (ask .small)) (pow-mono {i = 53 + e} {j = p + s} (omega (arith, narrower .fewer)))
+    pub low-rounded : shifted neg mode m j ≡ narrowed p s neg mode (m * 2 ^ e)
+    low-rounded =
+        let r = ruleFor neg mode in
+        let units = below-unit r s m e j (ask .small) (omega arith) is in
+        let near = below-power m e (p + s) (ask .small) (omega (arith, narrower .fewer)) in
+        rounded-of m j (ap (bitsMag p s) units ∙ units-bits r p s (m * 2 ^ e) (narrower .two) near)
+        (unit-side neg s m e j _ (ask .small) (omega arith) is ∙ ap (λ (z : ℕ). ternaryOf (signed neg (m * 2 ^ e)) (signed neg z)) (ap (λ (q : ℕ). q * 2 ^ s) units ∙ sym (whole-times-unit r s (m * 2 ^ e)) ∙ same-spacing r p s (m * 2 ^ e) (narrower .two) near))
 
 zero-mag : (p s : ℕ) → 2 ≤ p → magBits p s 0 ≡ 0
 zero-mag p s two = ap (magBits p s) (sym (zero-bits p s two)) ∙ bits-again p 1 s two (lit< tt) 0
@@ -134,8 +159,8 @@ module _ (p s n : ℕ) (narrower : Narrower p s) (on : OnMag (float p s) n) (can
       let e = scaledOf n .exponent in
       let reach = normal (λ (z : n ≡ 0). omega arith) in
       simp (ne-eqb (magBits 53 0 n) 0 (λ (z : magBits 53 0 n ≡ 0). omega (arith, zero-only z)))
-      (ap (λ (z : ℕ). z / 2 ^ (53 - p)) (ap (λ (z : ℕ). z - (s - (53 - p)) * 2 ^ 52) bits-are ∙ taken-off e m (s - (53 - p)) reach ∙ ap (λ (z : ℕ). z + m) (sym (field-fits TowardsZero m e p s canonical narrower reach)))
-      ∙ normal-bits TowardsZero m e p s canonical narrower reach _ refl
+      (ap (λ (z : ℕ). z / 2 ^ (53 - p)) (ap (λ (z : ℕ). z - (s - (53 - p)) * 2 ^ 52) bits-are ∙ taken-off e m (s - (53 - p)) reach ∙ ap (λ (z : ℕ). z + m) (sym (field-fits false TowardsZero m e p s canonical narrower reach)))
+      ∙ ap (λ (w : Rounded). w .bits) (normal-rounded false TowardsZero m e p s canonical narrower reach)
       ∙ ap (λ (z : ℕ). magBits p s (pickMag (float p s) TowardsZero z)) (scaled-whole n on-f64)
       ∙ ap (magBits p s) (own-pick TowardsZero)))
       (λ (h : n ≤ 0). let z : n ≡ 0 = omega arith in ap (λ (i : ℕ). rebiased p s (magBits 53 0 i)) z ∙ ap (rebiased p s) (zero-mag 53 0 (lit≤ tt)) ∙ sym (ap (magBits p s) z ∙ zero-mag p s (narrower .two)))

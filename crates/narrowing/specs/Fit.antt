@@ -2,16 +2,16 @@
 use mathlib.Core.Bool.{Bool, cond}
 use Prim.Native.Nat.{ℕ, _+_, _*_, _^_}
 use lib.Dec.{ltb}
-use lib.IntN.{ℤ}
-use Rattle.grid.specs.Round.{pick, signed}
+use Rattle.grid.specs.Round.{signed}
 use Rattle.grid.specs.declared.RoundingMode.{RoundingMode}
+use Rattle.grid.specs.declared.Ternary.{Ternary}
 use Rattle.patterns.specs.Float.{infBits}
-use Rattle.patterns.specs.Kind.{Kind, integer, binary, f64, gridOf}
+use Rattle.patterns.specs.Kind.{Kind, integer, binary, f64}
 use Rattle.patterns.specs.Pattern.{infinity, nanPattern, withSign}
+use Rattle.kinds.specs.Counts.{byPick}
+use Rattle.kinds.specs.declared.Fared.the-variants.{Exact, Clamped}
 use Rattle.kinds.specs.declared.OutOfRangeMode.{OutOfRangeMode}
 use Rattle.kinds.specs.declared.OutOfRangeMode.the-variants.{None, Clamp, Wrap}
-use Rattle.kinds.specs.declared.Outcome.{Outcome}
-use Rattle.kinds.specs.declared.Outcome.the-variants as O
 use Rattle.kinds.specs.declared.Fit.{Fit}
 use Rattle.kinds.specs.declared.Fit.the-variants.{Pattern, NotFinite, OutOfRange}
 use Rattle.cast_spec.specs.Fit.{fitNumber}
@@ -23,19 +23,19 @@ use Rattle.floats.specs.declared.Float.{Float}
 -- bits that reach an infinity's, by the range choice
 abbrev pub overrunFit : ℕ → ℕ → Bool → OutOfRangeMode → Fit
 overrunFit p w neg None = OutOfRange
-overrunFit p w neg Clamp = Pattern (infinity p w neg)
+overrunFit p w neg Clamp = Pattern (infinity p w neg) Clamped
 overrunFit p w neg Wrap = OutOfRange
 
--- the bits below a sign in a float kind: those of an infinity or more lie past the range
-abbrev pub fitBits : ℕ → ℕ → Bool → OutOfRangeMode → ℕ → Fit
-fitBits p w neg range b = cond (ltb b (infBits p w)) (Pattern (withSign (w + p) neg b)) (overrunFit p w neg range)
+-- the bits below a sign in a float kind, of a pick that lies where t says: those of an infinity or more lie past the range
+abbrev pub fitBits : ℕ → ℕ → Bool → OutOfRangeMode → ℕ → Ternary → Fit
+fitBits p w neg range b t = cond (ltb b (infBits p w)) (Pattern (withSign (w + p) neg b) (byPick t)) (overrunFit p w neg range)
 
 abbrev pub fitClass : Kind → RoundingMode → OutOfRangeMode → Float → Class → Fit
 fitClass k rule range f (Finite x) = fitNumber k rule range (f .negative) (signed (f .negative) (x .significand * 2 ^ x .exponent))
 fitClass (integer s n) rule range f Infinite = NotFinite
 fitClass (integer s n) rule range f (NotANumber t) = NotFinite
-fitClass (binary p w s) rule range f Infinite = Pattern (infinity p w (f .negative))
-fitClass (binary p w s) rule range f (NotANumber t) = Pattern (nanPattern f64 p w (f64Of f))
+fitClass (binary p w s) rule range f Infinite = Pattern (infinity p w (f .negative)) Exact
+fitClass (binary p w s) rule range f (NotANumber t) = Pattern (nanPattern f64 p w (f64Of f)) Exact
 
 abbrev pub fitFloat : Kind → RoundingMode → OutOfRangeMode → Float → Fit
 fitFloat k rule range f = fitClass k rule range f (f .class)

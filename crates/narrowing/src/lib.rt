@@ -1,26 +1,27 @@
 // A float rounded once to a narrower format: a finite magnitude, an infinity and a NaN, for any format narrower than f64.
 ghost use mathlib.Core.Path.{_≡_};
 ghost use Prim.Native.Nat.{_*_, _^_, _<_};
-ghost use Rattle.grid.specs.Grid.{float};
-ghost use Rattle.grid.specs.Round.{pickMag, ruleFor};
 ghost use Rattle.patterns.specs.Float.{infBits};
 ghost use Rattle.patterns.specs.Kind.{binary, f32};
-ghost use Rattle.patterns.specs.Pattern.{magBits, quiet};
+ghost use Rattle.patterns.specs.Pattern.{quiet};
 ghost use Rattle.floats.specs.Form.{Canonical, CanonicalClass};
-ghost use Rattle.narrowing.specs.Format.{Narrower, FormatBits, Rebiasable, rebiased};
+ghost use Rattle.narrowing.specs.Format.{Narrower, FormatBits, Rebiasable, narrowed, rebiased};
 ghost use Rattle.narrowing.specs.Fit.{fitBits, fitFloat};
 use floats::Class;
 use floats::Float;
 use floats::Scaled;
+use grid::Rounded;
 use grid::RoundingMode;
+use grid::Ternary;
+use kinds::Fared;
 use kinds::Fit;
 use kinds::OutOfRangeMode;
 
 // The bits below the sign of a finite magnitude, rounded to p significant bits and the smallest spacing 2^s; those of an infinity or more where the
 // format is overrun.
-pub fn narrow_magnitude(x: Scaled, p: u32, s: u64, mode: RoundingMode, negative: bool) -> u64
+pub fn narrow_magnitude(x: Scaled, p: u32, s: u64, mode: RoundingMode, negative: bool) -> Rounded
     requires { ⌜ Canonical x × Narrower p s ⌝ }
-    ensures { λ r. ⌜ r ≡ magBits p s (pickMag (float p s) (ruleFor negative mode) (x .significand * 2 ^ x .exponent)) ⌝ }
+    ensures { λ r. ⌜ r ≡ narrowed p s negative mode (x .significand * 2 ^ x .exponent) ⌝ }
 {
     let exponent = x.exponent;
     let drop = 53 - p;
@@ -52,17 +53,30 @@ fn quiet_fraction(fraction: u64, p: u32) -> u64
 
 // The bits below a sign as a pattern of the format of p significant bits and w bits of exponent field, by the range choice where they reach an
 // infinity's.
-fn fit_bits(bits: u64, negative: bool, p: u32, w: u32, range: OutOfRangeMode) -> Fit
+fn fit_bits(
+    bits: u64,
+    ternary: Ternary,
+    negative: bool,
+    p: u32,
+    w: u32,
+    range: OutOfRangeMode,
+) -> Fit
     requires { ⌜ FormatBits p w ⌝ }
-    ensures { λ r. ⌜ r ≡ fitBits p w negative range bits ⌝ }
+    ensures { λ r. ⌜ r ≡ fitBits p w negative range bits ternary ⌝ }
 {
     let sign = floats::sign_bit(negative, w + p - 1);
     let infinity = infinity_bits(p, w);
     if bits < infinity {
-        return Fit::Pattern(sign + bits);
+        return Fit::Pattern {
+            pattern: sign + bits,
+            fared: kinds::by_pick(ternary),
+        };
     }
     if let OutOfRangeMode::Clamp = range {
-        return Fit::Pattern(sign + infinity);
+        return Fit::Pattern {
+            pattern: sign + infinity,
+            fared: Fared::Clamped,
+        };
     }
     Fit::OutOfRange
 }
@@ -75,14 +89,21 @@ fn narrow(x: Float, p: u32, w: u32, s: u64, mode: RoundingMode, range: OutOfRang
     let negative = x.negative;
     let class = x.class;
     if let Class::Finite(magnitude) = class {
-        let bits = narrow_magnitude(magnitude, p, s, mode, negative);
-        return fit_bits(bits, negative, p, w, range);
+        let rounded = narrow_magnitude(magnitude, p, s, mode, negative);
+        let ternary = rounded.ternary;
+        return fit_bits(rounded.bits, ternary, negative, p, w, range);
     }
     let infinity = floats::sign_bit(negative, w + p - 1) + infinity_bits(p, w);
     if let Class::NotANumber { fraction } = class {
-        return Fit::Pattern(infinity + quiet_fraction(fraction, p));
+        return Fit::Pattern {
+            pattern: infinity + quiet_fraction(fraction, p),
+            fared: Fared::Exact,
+        };
     }
-    Fit::Pattern(infinity)
+    Fit::Pattern {
+        pattern: infinity,
+        fared: Fared::Exact,
+    }
 }
 
 // A float rounded to f32.
@@ -107,10 +128,10 @@ fn rebias(bits: u64, p: u32, s: u64) -> u64
     (bits - (base << 52)) >> drop
 }
 
-// An integer that was rounded to f32's precision, and has the bits below its sign in f64, as an f32.
-pub fn rebias_f32(bits: u64, negative: bool, range: OutOfRangeMode) -> Fit
+// An integer that was rounded to f32's precision, has the bits below its sign in f64 and lies where `ternary` says, as an f32.
+pub fn rebias_f32(bits: u64, ternary: Ternary, negative: bool, range: OutOfRangeMode) -> Fit
     requires { ⌜ Rebiasable 24 925 bits ⌝ }
-    ensures { λ r. ⌜ r ≡ fitBits 24 8 negative range (rebiased 24 925 bits) ⌝ }
+    ensures { λ r. ⌜ r ≡ fitBits 24 8 negative range (rebiased 24 925 bits) ternary ⌝ }
 {
-    fit_bits(rebias(bits, 24, 925), negative, 24, 8, range)
+    fit_bits(rebias(bits, 24, 925), ternary, negative, 24, 8, range)
 }

@@ -1,31 +1,35 @@
--- To be believed: what an exported call returns: the papers' number, the values of the answer as four 64-bit words, and the destination.
+-- To be believed: what an exported call returns: the papers' number, the values of the answer and the counts as fields of 64 bits, and the destination.
 use mathlib.Core.Path.{_≡_}
-use mathlib.Core.Bool.{cond}
-use mathlib.Core.List.{List, [], _∷_}
+use mathlib.Core.List.{List, [], _∷_, _++_}
 use Prim.Native.Nat.{ℕ}
-use lib.Dec.{eqb}
-use Rattle.kinds.specs.Answer.{numberOf, Values, valuesOf}
+use Rattle.kinds.specs.Answer.{numberOf, valuesOf}
 use Rattle.kinds.specs.declared.Answer.{Answer}
-use Rattle.cast_spec.specs.Chunk.{Inputs, callOf, answerOf, destinationOf, resultAt}
+use Rattle.kinds.specs.declared.Counts.{Counts}
+use Rattle.cast_spec.specs.Chunk.{Inputs, callOf, answerOf, countsOf, destinationOf, resultAt}
+use Rattle.cast_spec.specs.Counted.{Counted}
 use Rattle.cast_spec.specs.Demand1.{Demand1}
 use Rattle.cast_spec.specs.Demand3.{Demand3}
 
--- the column "returned" of the table "What the chunk call answers": "both counts"; "position, value"; "position, value, lowest, highest";
--- "position, value, -MAX, MAX"
-abbrev pub wordsOf : ℕ → Values → List ℕ
-wordsOf n v = cond (eqb n 4) (v .source-count ∷ v .destination-count ∷ 0 ∷ 0 ∷ []) (v .position ∷ v .value ∷ v .lowest ∷ v .highest ∷ [])
+-- the column "returned" of the table "What the chunk call answers", each value in a place of its own, 0 where an answer has no such value
+abbrev pub valueFields : Answer → List ℕ
+valueFields a = let v = valuesOf a in v .source-count ∷ v .destination-count ∷ v .position ∷ v .value ∷ v .lowest ∷ v .highest ∷ []
 
-abbrev pub fieldsOf : Answer → List ℕ
-fieldsOf a = wordsOf (numberOf a) (valuesOf a)
+-- "five counts: mapped, exact, rounded, clamped, wrapped"
+abbrev pub countFields : Counts → List ℕ
+countFields c = c .mapped ∷ c .exact ∷ c .rounded ∷ c .clamped ∷ c .wrapped ∷ []
 
--- the inputs, the number and the words that come back, and the destination at exit: as in `Contract`, the equations and the demands
-pub record Returned (I : Inputs) (n : ℕ) (words : List ℕ) (d : List ℕ) : Type 0 where
+abbrev pub fieldsOf : Answer → Counts → List ℕ
+fieldsOf a c = valueFields a ++ countFields c
+
+-- the inputs, the number and the fields that come back, and the destination at exit: as in `Contract`, the equations, the demands and the counts' classes
+pub record Returned (I : Inputs) (n : ℕ) (fields d : List ℕ) : Type 0 where
   pub number : n ≡ numberOf (answerOf I)
-  pub fields : words ≡ fieldsOf (answerOf I)
+  pub answer : fields ≡ fieldsOf (answerOf I) (countsOf I)
   pub bytes : d ≡ destinationOf I
   pub demand1 : Demand1 I (answerOf I) d
   pub demand3 : Demand3 (callOf I) (answerOf I) (resultAt I d)
+  pub counted : Counted (callOf I) (answerOf I) (countsOf I)
 
--- of these calls; 1 stands for 0.1
+-- of these calls; 2 stands for 0.2
 abbrev pub version : ℕ
-version = 1
+version = 2

@@ -7,6 +7,6 @@ use Rattle.cast_spec.specs.Element.{Entry}
 use Rattle.typed.specs.Typed.{typedInputs, bytesOf}
 use Rattle.polskrea.specs.Returned.{Returned}
 
--- the patterns of source, destination and entries, the number and the words that come back, and the destination's patterns at exit
+-- the patterns of source, destination and entries, the number and the fields that come back, and the destination's patterns at exit
 abbrev pub Exported : ℕ → ℕ → List ℕ → List ℕ → List Entry → ℕ → ℕ → ℕ → List ℕ → List ℕ → Type 0
-Exported from to src dst es rounding range n words dst′ = Returned (typedInputs from to src dst es rounding range) n words (bytesOf (width (kindOf to)) dst′)
+Exported from to src dst es rounding range n fields dst′ = Returned (typedInputs from to src dst es rounding range) n fields (bytesOf (width (kindOf to)) dst′)

@@ -22,8 +22,8 @@ pub extern "C" fn polskrea_convert_f64_to_u8(
 ) -> u8
     ensures { λ r. ⌜ Exported 9 4 (map f64Bits (now (src .entry))) (map u8Bits (now (dst .entry))) (map f64U8 (now (entries .entry))) rounding range r (now (answer .exit)) (map u8Bits (now (dst .exit))) ⌝ }
 {
-    let a = typed::convert_f64_to_u8(src, dst, entries, rounding, range);
-    polskrea::answered(a, answer)
+    let r = typed::convert_f64_to_u8(src, dst, entries, rounding, range);
+    polskrea::answered(r, answer)
 }
 
 // Converts f64 elements to i32 with a slice of entries, likewise.
@@ -38,8 +38,8 @@ pub extern "C" fn polskrea_convert_f64_to_i32(
 ) -> u8
     ensures { λ r. ⌜ Exported 9 2 (map f64Bits (now (src .entry))) (map i32Bits (now (dst .entry))) (map f64I32 (now (entries .entry))) rounding range r (now (answer .exit)) (map i32Bits (now (dst .exit))) ⌝ }
 {
-    let a = typed::convert_f64_to_i32(src, dst, entries, rounding, range);
-    polskrea::answered(a, answer)
+    let r = typed::convert_f64_to_i32(src, dst, entries, rounding, range);
+    polskrea::answered(r, answer)
 }
 
 // Converts f32 elements to u8 with a slice of entries, likewise.
@@ -54,8 +54,8 @@ pub extern "C" fn polskrea_convert_f32_to_u8(
 ) -> u8
     ensures { λ r. ⌜ Exported 8 4 (map f32Bits (now (src .entry))) (map u8Bits (now (dst .entry))) (map f32U8 (now (entries .entry))) rounding range r (now (answer .exit)) (map u8Bits (now (dst .exit))) ⌝ }
 {
-    let a = typed::convert_f32_to_u8(src, dst, entries, rounding, range);
-    polskrea::answered(a, answer)
+    let r = typed::convert_f32_to_u8(src, dst, entries, rounding, range);
+    polskrea::answered(r, answer)
 }
 
 // Converts f64 elements to f32 with a slice of entries, likewise.
@@ -70,8 +70,8 @@ pub extern "C" fn polskrea_convert_f64_to_f32(
 ) -> u8
     ensures { λ r. ⌜ Exported 9 8 (map f64Bits (now (src .entry))) (map f32Bits (now (dst .entry))) (map f64F32 (now (entries .entry))) rounding range r (now (answer .exit)) (map f32Bits (now (dst .exit))) ⌝ }
 {
-    let a = typed::convert_f64_to_f32(src, dst, entries, rounding, range);
-    polskrea::answered(a, answer)
+    let r = typed::convert_f64_to_f32(src, dst, entries, rounding, range);
+    polskrea::answered(r, answer)
 }
 
 // Converts i64 elements to f32 with a slice of entries, likewise.
@@ -86,6 +86,6 @@ pub extern "C" fn polskrea_convert_i64_to_f32(
 ) -> u8
     ensures { λ r. ⌜ Exported 3 8 (map i64Bits (now (src .entry))) (map f32Bits (now (dst .entry))) (map i64F32 (now (entries .entry))) rounding range r (now (answer .exit)) (map f32Bits (now (dst .exit))) ⌝ }
 {
-    let a = typed::convert_i64_to_f32(src, dst, entries, rounding, range);
-    polskrea::answered(a, answer)
+    let r = typed::convert_i64_to_f32(src, dst, entries, rounding, range);
+    polskrea::answered(r, answer)
 }

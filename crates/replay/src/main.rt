@@ -79,26 +79,28 @@ fn width(kind: u8) -> usize {
     1
 }
 
-// Whether the words of an answer are those of the case; the second of a refused element is a value.
-fn same_words(head: &[u8; 46], number: u8, words: &[u64; 4]) -> bool {
-    if words[0] != number_at(head, 14, 8) {
+// Whether the values of an answer are those of the case, which has either both counts of elements or a refused element's four. The original counts nothing else.
+fn same_values(head: &[u8; 46], number: u8, fields: &[u64; 11]) -> bool {
+    let first = if number == 4 { fields[0] } else { fields[2] };
+    if first != number_at(head, 14, 8) {
         return false;
     }
+    let second = if number == 4 { fields[1] } else { fields[3] };
     let kind = if 5 <= number { 9 } else { 0 };
-    if !same(kind, words[1], number_at(head, 22, 8)) {
+    if !same(kind, second, number_at(head, 22, 8)) {
         return false;
     }
-    if words[2] != number_at(head, 30, 8) {
+    if fields[4] != number_at(head, 30, 8) {
         return false;
     }
-    words[3] == number_at(head, 38, 8)
+    fields[5] == number_at(head, 38, 8)
 }
 
 // Whether the answer and the destination of a case are those of the list: of a bytes of source, c of keys and d of targets.
 fn holds(head: &[u8; 46], body: &[u8], dst: &mut [u8], a: usize, c: usize, d: usize) -> bool
     requires { ⌜ a + c + d ≤ length (now body) ⌝ }
 {
-    let mut words = [0u64; 4];
+    let mut fields = [0u64; 11];
     let keys = a + c;
     let targets = keys + d;
     let number = polskrea::polskrea_convert(
@@ -110,12 +112,12 @@ fn holds(head: &[u8; 46], body: &[u8], dst: &mut [u8], a: usize, c: usize, d: us
         head[2],
         head[3],
         head[4],
-        &mut words,
+        &mut fields,
     );
     if number != head[13] {
         return false;
     }
-    if !same_words(head, number, &words) {
+    if !same_values(head, number, &fields) {
         return false;
     }
     same_destination(head[2], number, &body[targets..], dst)

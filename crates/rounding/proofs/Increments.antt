@@ -1,16 +1,22 @@
 -- A step is a quotient: what is added first depends on the rule and, for nearest-even, on the last kept bit.
-use mathlib.Core.Path.{_≡_, subst, sym, ap, _∙_}
+use mathlib.Core.Path.{_≡_, subst, sym, ap, ap₂, _∙_}
 use mathlib.Core.Bool.{Bool, true, false}
 use Prim.Native.Nat.{ℕ, suc, _+_, _-_, _*_, _/_, _%_, _^_, _≤_, _<_}
 use native.Mathlib.Nat.{div-add-mod', mod-lt, div-eq-of-lt-le, le-refl}
 use native.Mathlib.Omega.{arith}
+use lib.Bits.{bitAnd, and-mask}
+use lib.Dec.{eqb, ltb}
 use lib.Pow.{pow-pos}
 use Rattle.grid.specs.declared.RoundingMode.{RoundingMode}
 use Rattle.grid.specs.declared.RoundingMode.the-variants.{NearestEven, TowardsZero, TowardsPositive, TowardsNegative, NearestAway}
-use Rattle.grid.specs.Round.{step, ruleFor, flip}
+use Rattle.grid.specs.declared.Rounded.{Rounded}
+use Rattle.grid.specs.declared.Ternary.{Ternary}
+use Rattle.grid.specs.Round.{step, ruleFor, flip, signed}
+use Rattle.grid.specs.Ternary.{ternaryOf}
+use Rattle.grid.proofs.Sides.{step-exact, step-larger}
 use Rattle.grid.proofs.Step.{by-lt, by-zero}
 use Rattle.patterns.proofs.Shifts.{one-shifted}
-use Rattle.rounding.specs.Rounding.{incrementOf}
+use Rattle.rounding.specs.Rounding.{incrementOf, shifted}
 
 -- what is added reaches no further unit, or one
 low : (m b q s u : ℕ) → q * u + s ≡ m → s + b < u → (m + b) / u ≡ q
@@ -77,5 +83,28 @@ module _ (r : RoundingMode) (b m j : ℕ) (some : 0 < j) (few : j < 64) (is : b 
   pub sum-fits : m + 2 ^ j ≤ 2 ^ 64 → m + b < 2 ^ 64
   sum-fits room = subst (λ (z : ℕ). m + z < 2 ^ 64) (sym increment-is) (increment-fits r m j some room)
 
-  pub sum-steps : (m + b) / 2 ^ j ≡ step r (m / 2 ^ j) (m % 2 ^ j) (2 ^ j)
+  sum-steps : (m + b) / 2 ^ j ≡ step r (m / 2 ^ j) (m % 2 ^ j) (2 ^ j)
   sum-steps = ap (λ (x : ℕ). (m + x) / 2 ^ j) increment-is ∙ incremented-pow r m j some
+
+  rest-is : bitAnd m (1 * 2 ^ j % 2 ^ 64 - 1) ≡ m % 2 ^ j
+  rest-is = ap (λ (u : ℕ). bitAnd m (u - 1)) (one-shifted j few) ∙ and-mask m j
+
+  -- the tests that tell where the quotient's multiple lies
+  pub sum-exact : eqb (bitAnd m (1 * 2 ^ j % 2 ^ 64 - 1)) 0 ≡ eqb m ((m + b) / 2 ^ j * 2 ^ j)
+  sum-exact =
+      ap (λ (x : ℕ). eqb x 0) rest-is
+      ∙ sym (step-exact r (m / 2 ^ j) (m % 2 ^ j) (2 ^ j) (pow-pos j) (mod-lt m (pow-pos j)))
+      ∙ ap₂ (λ (x y : ℕ). eqb x (y * 2 ^ j)) (div-add-mod' m (2 ^ j)) (sym sum-steps)
+
+  pub sum-larger : ltb (m / 2 ^ j) ((m + b) / 2 ^ j) ≡ ltb m ((m + b) / 2 ^ j * 2 ^ j)
+  sum-larger =
+      ap (ltb (m / 2 ^ j)) sum-steps
+      ∙ sym (step-larger r (m / 2 ^ j) (m % 2 ^ j) (2 ^ j) (pow-pos j) (mod-lt m (pow-pos j)))
+      ∙ ap₂ (λ (x y : ℕ). ltb x (y * 2 ^ j)) (div-add-mod' m (2 ^ j)) (sym sum-steps)
+
+-- the quotient with what those tests tell
+pub shifted-is : (neg : Bool) (mode : RoundingMode) (b m j : ℕ) (t : Ternary) → 0 < j → j < 64 → b ≡ incrementOf (ruleFor neg mode) (m / 2 ^ j) (1 * 2 ^ j % 2 ^ 64 - 1) → t ≡ ternaryOf (signed neg m) (signed neg ((m + b) / 2 ^ j * 2 ^ j))
+    → record { bits = (m + b) / 2 ^ j; ternary = t } ≡ shifted neg mode m j
+shifted-is neg mode b m j t some few is e =
+    ap {B = Rounded} (λ (t : Ternary). record { bits = (m + b) / 2 ^ j; ternary = t }) e
+    ∙ ap {B = Rounded} (λ (q : ℕ). record { bits = q; ternary = ternaryOf (signed neg m) (signed neg (q * 2 ^ j)) }) (sum-steps (ruleFor neg mode) b m j some few is)

@@ -1,14 +1,17 @@
 -- A magnitude m × 2^e rounded to the multiples of 2^K: below that unit bits are dropped, from it on nothing is.
 use mathlib.Core.Path.{_≡_, refl, sym, ap, ap₂, _∙_}
+use mathlib.Core.Bool.{Bool}
 use Prim.Native.Nat.{zero, suc, min, ℕ, _+_, _-_, _*_, _/_, _%_, _^_, _≤_, _<_}
-use native.Mathlib.Nat.{div-eq-of-lt, mod-eq-of-lt, mul-assoc, mul-div-cancel, zero-div, zero-mod, zero-mul}
+use native.Mathlib.Nat.{lt-of-lt-of-le, div-eq-of-lt, mod-eq-of-lt, mul-assoc, mul-div-cancel, zero-div, zero-mod, zero-mul}
 use native.Mathlib.Omega.{arith}
-use lib.Pow.{pow-pos, pow-add, pow-mono}
+use lib.Pow.{pow-pos, pow-add, pow-mono, shl-lt}
 use Rattle.grid.specs.declared.RoundingMode.{RoundingMode}
 use Rattle.grid.specs.Grid.{whole}
-use Rattle.grid.specs.Round.{pickMag, step}
+use Rattle.grid.specs.Round.{pickMag, signed, step}
+use Rattle.grid.specs.Ternary.{ternaryOf}
 use Rattle.grid.proofs.Kept.{pick-shift, pick-exact, pick-zero}
 use Rattle.grid.proofs.Neighbours.{cut}
+use Rattle.grid.proofs.Sides.{side-power, side-under}
 use Rattle.grid.proofs.Step.{step-alike, step-no-rest}
 use Rattle.rounding.specs.Rounding.{unitsOf}
 
@@ -54,3 +57,12 @@ from-unit r K m e l = over-unit r K (m * 2 ^ e) (m * 2 ^ (e - K)) (pick-exact (w
   where
     parts : (K e : ℕ) → K ≤ e → e ≡ e - K + K
     parts K e l = omega arith
+
+-- ---- q of the units that are dropped lie beside m as q units of 2^K lie beside m × 2^e: one is the other times 2^e, or m × 2^e reaches neither
+pub below-power : (m e i : ℕ) → m < 2 ^ 53 → 53 + e ≤ i → m * 2 ^ e < 2 ^ i
+below-power m e i small h = lt-of-lt-of-le (shl-lt 53 e small) (pow-mono h)
+
+pub unit-side : (neg : Bool) (K m e j q : ℕ) → m < 2 ^ 53 → e < K → j ≡ min (K - e) 63 → ternaryOf (signed neg m) (signed neg (q * 2 ^ j)) ≡ ternaryOf (signed neg (m * 2 ^ e)) (signed neg (q * 2 ^ K))
+unit-side neg K m e j q small l is = side-power neg m q j e ∙ cut (K - e) 63
+    (λ (h : K - e < 63). ap (λ (i : ℕ). ternaryOf (signed neg (m * 2 ^ e)) (signed neg (q * 2 ^ i))) (omega arith))
+    (λ (h : 63 ≤ K - e). side-under neg (m * 2 ^ e) q (2 ^ (j + e)) (2 ^ K) (below-power m e (j + e) small (omega arith)) (below-power m e K small (omega arith)))

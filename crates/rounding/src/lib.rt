@@ -1,11 +1,13 @@
 // Rounding by a rule: low bits dropped from a magnitude, and a finite float rounded to a whole number.
 ghost use mathlib.Core.Path.{_≡_};
-ghost use Prim.Native.Nat.{_*_, _/_, _%_, _^_, _<_, min};
-ghost use Rattle.grid.specs.Round.{step, ruleFor};
+ghost use Prim.Native.Nat.{_*_, _^_, _<_, min};
+ghost use Rattle.grid.specs.Round.{ruleFor};
 ghost use Rattle.floats.specs.Form.{Canonical};
-ghost use Rattle.rounding.specs.Rounding.{incrementOf, Droppable, wholeOf};
+ghost use Rattle.rounding.specs.Rounding.{incrementOf, Droppable, shifted, wholeOf};
 use floats::Scaled;
+use grid::Rounded;
 use grid::RoundingMode;
+use grid::Ternary;
 
 // What is added to a magnitude before its low bits are dropped: q is the kept part, and ones is all ones in the dropped bits.
 fn increment(q: u64, ones: u64, mode: RoundingMode, negative: bool) -> u64
@@ -22,13 +24,17 @@ fn increment(q: u64, ones: u64, mode: RoundingMode, negative: bool) -> u64
 }
 
 // The magnitude m of a number of the given sign, with its low bits dropped by the rule.
-pub fn round_shift(m: u64, bits: u32, mode: RoundingMode, negative: bool) -> u64
+pub fn round_shift(m: u64, bits: u32, mode: RoundingMode, negative: bool) -> Rounded
     requires { ⌜ Droppable m bits ⌝ }
-    ensures { λ r. ⌜ r ≡ step (ruleFor negative mode) (m / 2 ^ bits) (m % 2 ^ bits) (2 ^ bits) ⌝ }
+    ensures { λ r. ⌜ r ≡ shifted negative mode m bits ⌝ }
 {
-    let unit = 1u64 << bits;
+    let ones = (1u64 << bits) - 1;
     let q = m >> bits;
-    (m + increment(q, unit - 1, mode, negative)) >> bits
+    let kept = (m + increment(q, ones, mode, negative)) >> bits;
+    Rounded {
+        bits: kept,
+        ternary: grid::ternary_of(m & ones == 0, q < kept, negative),
+    }
 }
 
 // How many bits to drop of a number of at most 53, where so many are to go: dropping 63 leaves what dropping more would.
@@ -38,32 +44,38 @@ pub fn at_most_63(bits: u64) -> u32
     if bits < 63 { bits as u32 } else { 63 }
 }
 
-// A whole number's magnitude modulo 2^64, and whether the magnitude exceeds 64 bits.
+// A whole number's magnitude modulo 2^64, whether the magnitude exceeds 64 bits, and where the number lies beside the one that was rounded.
 pub struct Whole {
     pub magnitude: u64,
     pub exceeds: bool,
+    pub ternary: Ternary,
 }
 
 // A finite magnitude of the given sign rounded to a whole number.
 pub fn round_to_whole(x: Scaled, mode: RoundingMode, negative: bool) -> Whole
     requires { ⌜ Canonical x ⌝ }
-    ensures { λ r. ⌜ r ≡ wholeOf (ruleFor negative mode) (x .significand * 2 ^ x .exponent) ⌝ }
+    ensures { λ r. ⌜ r ≡ wholeOf negative mode (x .significand * 2 ^ x .exponent) ⌝ }
 {
     let exponent = x.exponent;
     if exponent < 1074 {
+        let rounded = round_shift(x.significand, at_most_63(1074 - exponent), mode, negative);
+        let ternary = rounded.ternary;
         return Whole {
-            magnitude: round_shift(x.significand, at_most_63(1074 - exponent), mode, negative),
+            magnitude: rounded.bits,
             exceeds: false,
+            ternary: ternary,
         };
     }
     if exponent < 1138 {
         return Whole {
             magnitude: x.significand << (exponent - 1074),
             exceeds: 1085 < exponent,
+            ternary: Ternary::Exact,
         };
     }
     Whole {
         magnitude: 0,
         exceeds: true,
+        ternary: Ternary::Exact,
     }
 }

@@ -1,19 +1,17 @@
 -- The route of two rows of the table: it has their rows, and its kinds are theirs.
-use mathlib.Core.Path.{_≡_, refl, sym, ap, ap₂, subst, _∙_}
+use mathlib.Core.Path.{_≡_, refl, sym, ap, _∙_}
 use mathlib.Core.Bool.{Bool, true, false, cond, _&&_, Bool·beq}
 use mathlib.Core.Logic.{⊎-elim}
 use Prim.Native.Nat.{ℕ}
 use native.Mathlib.Omega.{arith}
 use lib.Dec.{eqb}
 use borrow.Author.Tests.{eqb-true, eqb-false}
-use Rattle.patterns.specs.Kind.{Kind, integer}
+use Rattle.patterns.specs.Kind.{integer}
 use Rattle.kinds.specs.Row.{floatOf, floatFormat, kindIn, FloatRow, FormatRow}
 use Rattle.kinds.specs.declared.FloatFormat.{FloatFormat}
-use Rattle.kinds.specs.declared.IntegerFormat.{IntegerFormat}
 use Rattle.kinds.specs.declared.Format.{Format}
 use Rattle.kinds.specs.declared.Format.the-variants.{Integer, Float}
 use Rattle.routes.specs.Route.{RouteRow, routeOf, sourceOf, targetOf}
-use Rattle.routes.specs.declared.Route.{Route}
 use Rattle.routes.specs.declared.Route.the-variants.{Same, IntToInt, FloatToFloat}
 
 pub route-row : (s t : Format) → FormatRow s → FormatRow t → RouteRow (routeOf s t)

@@ -3,6 +3,7 @@ ghost use mathlib.Core.Path.{_≡_};
 ghost use Rattle.steps.specs.Steps.{stepped};
 ghost use Rattle.routes.specs.Route.{integerRoute, floatRoute, routeOf, sourceOf, targetOf, RouteRow, SourcePattern};
 use grid::RoundingMode;
+use kinds::Fared;
 use kinds::Fit;
 use kinds::FloatFormat;
 use kinds::Format;
@@ -75,10 +76,13 @@ pub fn step(b: u64, found: Lookup, route: Route, mode: RoundingMode, range: OutO
     ensures { λ r. ⌜ r ≡ stepped found (sourceOf route) (targetOf route) mode range b ⌝ }
 {
     if let Lookup::Found(pattern) = found {
-        return Fit::Pattern(pattern);
+        return kinds::mapped(pattern);
     }
     match route {
-        Route::Same(_) => Fit::Pattern(b),
+        Route::Same(_) => Fit::Pattern {
+            pattern: b,
+            fared: Fared::Exact,
+        },
         Route::IntToInt { from, to } => {
             let x = integers::int_magnitude(b, from.signed, from.bits);
             steps::step_int_to_int(x, found, to, range)

@@ -1,8 +1,10 @@
-// The fourteen samples, and a chunk of two elements, as bytes through the chunk call: each line is the answer's number, the position of a refusal, and the destination's bytes, which began as aa.
+// The fourteen samples, a chunk of two elements and one of four under clamp and wrap, as bytes through the chunk call: each line is the answer's number,
+// the position of a refusal, the destination's bytes, which began as aa, and the counts mapped, exact, rounded, clamped and wrapped.
 ghost use mathlib.Core.Path.{_≡_};
 ghost use Prim.Native.Nat.{_≤_, _+_};
 ghost use lib.ListN.{length};
-use kinds::Answer;
+use kinds::Counts;
+use kinds::Reply;
 use libc::STDOUT_FILENO;
 
 fn wide(x: u8) -> u64 {
@@ -14,10 +16,25 @@ fn print_bytes(d: &[u8]) {
     for i in 0..d.len() {
         io::print_hex(STDOUT_FILENO, wide(d[i]), 2);
     }
+}
+
+fn print_count(n: usize) {
+    io::write_all(STDOUT_FILENO, b" ");
+    io::print_decimal(STDOUT_FILENO, n as u64);
+}
+
+fn print_counts(c: Counts) {
+    print_count(c.mapped);
+    print_count(c.exact);
+    print_count(c.rounded);
+    print_count(c.clamped);
+    print_count(c.wrapped);
     io::write_all(STDOUT_FILENO, b"\n");
 }
 
-fn print_answer(a: Answer, d: &[u8]) {
+fn print_reply(r: Reply, d: &[u8]) {
+    let a = r.answer;
+    let c = r.counts;
     let number = kinds::number(a);
     io::print_decimal(STDOUT_FILENO, wide(number));
     if 5 <= number {
@@ -26,6 +43,7 @@ fn print_answer(a: Answer, d: &[u8]) {
     }
     io::write_all(STDOUT_FILENO, b": ");
     print_bytes(d);
+    print_counts(c);
 }
 
 // The first sw bytes of s to the first dw bytes of d, with no map.
@@ -33,7 +51,7 @@ fn call(s: &[u8], d: &mut [u8], sw: usize, dw: usize, from: u8, to: u8, rounding
     requires { ⌜ (sw ≤ length (now s)) × (dw ≤ length (now d)) ⌝ }
 {
     let none = &s[0..0];
-    let a = chunk::convert(
+    let r = chunk::convert(
         &s[0..sw],
         &mut d[0..dw],
         none,
@@ -43,7 +61,7 @@ fn call(s: &[u8], d: &mut [u8], sw: usize, dw: usize, from: u8, to: u8, rounding
         rounding,
         range,
     );
-    print_answer(a, &d[0..dw]);
+    print_reply(r, &d[0..dw]);
 }
 
 // One element of sw bytes, whose pattern is x, to one of dw bytes.
@@ -118,11 +136,11 @@ fn mapped() {
     let mut s = [0u8; 8];
     bytes_le::put8(&mut s, 0x8000000000000000);
     let mut d = [0xaau8; 1];
-    let a = chunk::convert(&s, &mut d, &keys, &targets, 9, 4, 0, 0);
-    print_answer(a, &d);
+    let r = chunk::convert(&s, &mut d, &keys, &targets, 9, 4, 0, 0);
+    print_reply(r, &d);
 }
 
-// 2.5 and 300 f64 to u8: the first is converted, and the second refused.
+// 2.5 and 300 f64 to u8: the first is converted, and the second refused, so one is counted.
 fn two() {
     let mut s = [0u8; 16];
     put(&mut s, 0, 0x4004000000000000);
@@ -131,9 +149,25 @@ fn two() {
     call(&s, &mut d, 16, 2, 9, 4, 0, 0);
 }
 
+// -0, 1, 2.5 and 300 f64 to u8 with 0 mapped to 7: one of each class, and 300 clamped or wrapped by the range code.
+fn classes(range: u8) {
+    let keys = [0u8; 8];
+    let targets = [7];
+    let mut s = [0u8; 32];
+    put(&mut s, 0, 0x8000000000000000);
+    put(&mut s, 8, 0x3ff0000000000000);
+    put(&mut s, 16, 0x4004000000000000);
+    put(&mut s, 24, 0x4072c00000000000);
+    let mut d = [0xaau8; 4];
+    let r = chunk::convert(&s, &mut d, &keys, &targets, 9, 4, 0, range);
+    print_reply(r, &d);
+}
+
 fn main() {
     to_integers();
     to_floats();
     mapped();
     two();
+    classes(1);
+    classes(2);
 }

@@ -1,21 +1,18 @@
 -- What a float's form comes to in a kind is what its pattern comes to.
-use mathlib.Core.Path.{_≡_, refl, sym, ap, subst, _∙_}
+use mathlib.Core.Path.{_≡_, refl, sym, ap, _∙_}
 use mathlib.Core.Bool.{Bool}
 use mathlib.Core.List.{[]}
-use mathlib.Core.Logic.{⊎-elim}
 use Prim.Native.Nat.{ℕ, _*_, _^_, _<_}
 use lib.IntN.{ℤ, natAbs}
 use Rattle.grid.specs.Round.{pick, signed}
 use Rattle.grid.specs.declared.RoundingMode.{RoundingMode}
-use Rattle.patterns.specs.Kind.{Kind, integer, binary, f32, f64, bits, gridOf}
+use Rattle.patterns.specs.Kind.{Kind, integer, binary, f32, f64, gridOf}
 use Rattle.patterns.specs.Value.{Value, nan, inf, num, negative, valueOf}
 use Rattle.patterns.specs.Pattern.{asF64From, infinity, nanPattern}
 use Rattle.patterns.proofs.Floats.{infinity-sign}
-use Rattle.kinds.specs.Row.{FloatRow}
-use Rattle.kinds.specs.declared.FloatFormat.{FloatFormat}
 use Rattle.kinds.specs.declared.OutOfRangeMode.{OutOfRangeMode}
+use Rattle.kinds.specs.declared.Fared.the-variants.{Exact}
 use Rattle.kinds.specs.declared.Fit.the-variants.{Pattern}
-use Rattle.kinds.specs.Row as rows
 use Rattle.cast_spec.specs.Element.{converted}
 use Rattle.floats.specs.Form.{classFor, f64Of, floatOf, scaledOf}
 use Rattle.floats.proofs.Values.{Formed, f32-formed, f64-formed}
@@ -30,7 +27,7 @@ module _ (p w s b : ℕ) (formed : Formed (binary p w s) b) (rule : RoundingMode
 
   number : (to : Kind) (x : ℤ) → valueOf k b ≡ num x
       → fitNumber to rule range (negative k b) (signed (negative k b) (scaledOf (natAbs x) .significand * 2 ^ scaledOf (natAbs x) .exponent)) ≡ fitOf (converted (record { from = k; to = to; rule = rule; range = range; entries = [] }) b to (num x))
-  number to x e = ap (fitNumber to rule range (negative k b)) (formed .number x e) ∙ fit-any range (negative k b) (pick (gridOf to) rule x) to 0 _
+  number to x e = ap (fitNumber to rule range (negative k b)) (formed .number x e) ∙ fit-any range (negative k b) x (pick (gridOf to) rule x) to 0 _
 
   pub form-to-integer : (t : Bool) (n : ℕ) → fitFloat (integer t n) rule range (floatOf k b) ≡ fitOf (unmapped k (integer t n) rule range b)
   form-to-integer t n = go (valueOf k b) refl
@@ -45,8 +42,8 @@ module _ (p w s b : ℕ) (formed : Formed (binary p w s) b) (rule : RoundingMode
     where
       go : (v : Value) → valueOf k b ≡ v → fitClass (binary p′ w′ s′) rule range (floatOf k b) (classFor k b v) ≡ fitOf (converted (record { from = k; to = binary p′ w′ s′; rule = rule; range = range; entries = [] }) b (binary p′ w′ s′) v)
       go (num x) e = number (binary p′ w′ s′) x e
-      go (inf neg) e = ap (λ (c : Bool). Pattern (infinity p′ w′ c)) (sym (infinity-sign p w s b neg e))
-      go nan e = ap Pattern (nans e)
+      go (inf neg) e = ap (λ (c : Bool). Pattern (infinity p′ w′ c) Exact) (sym (infinity-sign p w s b neg e))
+      go nan e = ap (λ (z : ℕ). Pattern z Exact) (nans e)
 
 -- an f64 to any float kind, and an f32 to f64
 pub f64-to-float : (p w s b : ℕ) → b < 2 ^ 64 → (rule : RoundingMode) (range : OutOfRangeMode) → fitFloat (binary p w s) rule range (floatOf f64 b) ≡ fitOf (unmapped f64 (binary p w s) rule range b)

@@ -2,6 +2,7 @@
 use mathlib.Core.Path.{_≡_, refl, sym, ap}
 use Prim.Native.Nat.{ℕ}
 use Rattle.kinds.specs.declared.Fit.{Fit}
+use Rattle.kinds.specs.declared.Fared.the-variants.{Mapped}
 use Rattle.kinds.specs.declared.Fit.the-variants.{Pattern}
 use Rattle.kinds.specs.declared.Lookup.{Lookup}
 use Rattle.kinds.specs.declared.Lookup.the-variants.{Found, Missing}
@@ -11,7 +12,7 @@ use Rattle.cast_spec.specs.Fit.{fitOf}
 use Rattle.steps.specs.Steps.{foundFit}
 
 module _ (f : Lookup) (x : Fit) where
-  pub found-fit : (t : ℕ) → f ≡ Found t → Pattern t ≡ foundFit f x
+  pub found-fit : (t : ℕ) → f ≡ Found t → Pattern t Mapped ≡ foundFit f x
   found-fit t e = ap (λ (l : Lookup). foundFit l x) (sym e)
 
   pub missing-fit : f ≡ Missing → x ≡ foundFit f x

@@ -3,7 +3,6 @@ use mathlib.Core.Path.{_≡_, sym, ap, _∙_}
 use mathlib.Core.Bool.{Bool}
 use mathlib.Core.List.{[]}
 use Prim.Native.Nat.{ℕ}
-use lib.IntN.{ℤ}
 use Rattle.grid.specs.Round.{pick}
 use Rattle.grid.specs.declared.RoundingMode.{RoundingMode}
 use Rattle.patterns.specs.Kind.{Kind, gridOf, integer}
@@ -26,6 +25,6 @@ module _ (b : ℕ) (s : Bool) (n : ℕ) (h : IntegerPattern b n) where
   integer-fit x e to mode range =
       let X = numberOf (magnitudeOf K b) in
       ap (fitInteger to mode range) e
-      ∙ ap (λ (c : Bool). fitOf (ranged to range 0 c (pick (gridOf to) mode X))) (sign-is b s n h)
-      ∙ fit-any range (negative K b) (pick (gridOf to) mode X) to 0 (asF64 K b)
+      ∙ ap (λ (c : Bool). fitOf (ranged to range 0 c X (pick (gridOf to) mode X))) (sign-is b s n h)
+      ∙ fit-any range (negative K b) X (pick (gridOf to) mode X) to 0 (asF64 K b)
       ∙ ap (λ v. fitOf (converted (record { from = K; to = to; rule = mode; range = range; entries = [] }) b to v)) (sym (number-is b s n h))

@@ -17,6 +17,10 @@ use Rattle.patterns.proofs.AnyKind.{lowest-in, pattern-only, sound, unit-pos}
 use Rattle.patterns.proofs.Integers.{lowIn, value-in-range, valueIn}
 use Rattle.patterns.proofs.Floats.{abs-signed, infinity-bits, infinity-sign, number-of-format, signed-again}
 use Rattle.kinds.specs.declared.OutOfRangeMode.{OutOfRangeMode}
+use Rattle.grid.specs.declared.Ternary.{Ternary}
+use Rattle.grid.proofs.Sides.{exact-is}
+use Rattle.kinds.specs.Counts.{byPick}
+use Rattle.kinds.specs.declared.Fared.the-variants.{Exact}
 use Rattle.kinds.specs.declared.Outcome.the-variants.{Stored}
 use Rattle.cast_spec.specs.Element.{Settings, converted, ranged}
 use Rattle.integers.specs.Magnitude.{magnitudeOf}
@@ -26,8 +30,8 @@ use Rattle.narrowing.proofs.Fits.{in-range-stored}
 use Rattle.cast_spec.specs.Fit.{unmapped}
 
 -- a number of the target's grid and range is stored as it is
-exactly : (k : Kind) → WellFormed k → (mode : RoundingMode) (range : OutOfRangeMode) (v : ℕ) (neg : Bool) (x : ℤ) → OnGrid (gridOf k) x → InRange k x → ranged k range v neg (pick (gridOf k) mode x) ≡ Stored (patternOf k neg x)
-exactly k ok mode range v neg x on h = ap (ranged k range v neg) (pick-own (gridOf k) (sound k ok) mode x on) ∙ in-range-stored k range v neg x h
+exactly : (k : Kind) → WellFormed k → (mode : RoundingMode) (range : OutOfRangeMode) (v : ℕ) (neg : Bool) (x : ℤ) → OnGrid (gridOf k) x → InRange k x → ranged k range v neg x (pick (gridOf k) mode x) ≡ Stored (patternOf k neg x) Exact
+exactly k ok mode range v neg x on h = ap (ranged k range v neg x) (pick-own (gridOf k) (sound k ok) mode x on) ∙ in-range-stored k range v neg x x h ∙ ap (λ (t : Ternary). Stored (patternOf k neg x) (byPick t)) (exact-is x x refl)
 
 own-nan : (p w s b : ℕ) → nanPattern (binary p w s) p w b ≡ b
 unfolding nanPattern
@@ -52,19 +56,19 @@ module _ (k : Kind) (ok : WellFormed k) (b : ℕ) (fits : b < 2 ^ bits k) (mode 
   abbrev S : Settings
   S = record { from = k; to = k; rule = mode; range = range; entries = [] }
 
-  number : (x : ℤ) → valueOf k b ≡ num x → Stored b ≡ converted S b k (num x)
+  number : (x : ℤ) → valueOf k b ≡ num x → Stored b Exact ≡ converted S b k (num x)
   number x e =
       let h = own-number k ok b fits x e in
-      sym (exactly k ok mode range (asF64 k b) (negative k b) x (h .0) (h .1) ∙ ap Stored (sym (pattern-only k b (negative k b) x ok fits e refl)))
+      sym (exactly k ok mode range (asF64 k b) (negative k b) x (h .0) (h .1) ∙ ap (λ (z : ℕ). Stored z Exact) (sym (pattern-only k b (negative k b) x ok fits e refl)))
 
-pub same-kind : (k : Kind) → WellFormed k → (b : ℕ) → b < 2 ^ bits k → (mode : RoundingMode) (range : OutOfRangeMode) → Stored b ≡ unmapped k k mode range b
+pub same-kind : (k : Kind) → WellFormed k → (b : ℕ) → b < 2 ^ bits k → (mode : RoundingMode) (range : OutOfRangeMode) → Stored b Exact ≡ unmapped k k mode range b
 same-kind (integer s n) ok b fits mode range = number (integer s n) ok b fits mode range (numberOf (magnitudeOf (integer s n) b)) (magnitude-value s n b) ∙ ap (converted (S (integer s n) ok b fits mode range) b (integer s n)) (sym (magnitude-value s n b))
 same-kind (binary p w s) ok b fits mode range = go (valueOf k b) refl
   where
     k : Kind
     k = binary p w s
 
-    go : (u : Value) → valueOf k b ≡ u → Stored b ≡ converted (record { from = k; to = k; rule = mode; range = range; entries = [] }) b k u
+    go : (u : Value) → valueOf k b ≡ u → Stored b Exact ≡ converted (record { from = k; to = k; rule = mode; range = range; entries = [] }) b k u
     go (num x) e = number k ok b fits mode range x e
-    go (inf neg) e = ap Stored (sym (ap₂ (withSign (w + p)) (infinity-sign p w s b neg e) (sym (infinity-bits p w s b neg e)) ∙ signed-again p w s (ok .0) (ok .1) b fits))
-    go nan e = ap Stored (sym (own-nan p w s b))
+    go (inf neg) e = ap (λ (z : ℕ). Stored z Exact) (sym (ap₂ (withSign (w + p)) (infinity-sign p w s b neg e) (sym (infinity-bits p w s b neg e)) ∙ signed-again p w s (ok .0) (ok .1) b fits))
+    go nan e = ap (λ (z : ℕ). Stored z Exact) (sym (own-nan p w s b))

@@ -3,7 +3,6 @@ use mathlib.Core.Path.{_≡_, refl, sym, ap, subst, _∙_}
 use mathlib.Core.Bool.{Bool}
 use mathlib.Core.Logic.{⊎-elim}
 use Prim.Native.Nat.{ℕ, _^_, _<_}
-use native.Mathlib.Omega.{arith}
 use lib.Dec.{lit<, lit≤}
 use Rattle.grid.specs.declared.RoundingMode.{RoundingMode}
 use Rattle.patterns.specs.Kind.{Kind, WellFormed, binary, bits, f64, integer}
@@ -13,6 +12,7 @@ use Rattle.kinds.specs.declared.Format.{Format}
 use Rattle.kinds.specs.declared.Format.the-variants.{Integer, Float}
 use Rattle.kinds.specs.declared.Lookup.{Lookup}
 use Rattle.kinds.specs.declared.OutOfRangeMode.{OutOfRangeMode}
+use Rattle.kinds.specs.declared.Fared.the-variants.{Exact}
 use Rattle.kinds.specs.declared.Fit.the-variants.{Pattern}
 use Rattle.floats.specs.Form as form
 use Rattle.floats.specs.declared.Float as F
@@ -62,5 +62,5 @@ row-well-formed : (f : Format) → FormatRow f → WellFormed (kindIn f)
 row-well-formed (Integer f) row = row .positive
 row-well-formed (Float f) row = ⊎-elim (λ e. subst (λ (z : FloatFormat). WellFormed (floatOf z)) (sym e) (lit≤ tt, lit< tt)) (λ e. subst (λ (z : FloatFormat). WellFormed (floatOf z)) (sym e) (lit≤ tt, lit< tt)) row
 
-pub unchanged : (f : Format) → FormatRow f → (b : ℕ) → b < 2 ^ bits (kindIn f) → (mode : RoundingMode) (range : OutOfRangeMode) → Pattern b ≡ fitOf (unmapped (kindIn f) (kindIn f) mode range b)
+pub unchanged : (f : Format) → FormatRow f → (b : ℕ) → b < 2 ^ bits (kindIn f) → (mode : RoundingMode) (range : OutOfRangeMode) → Pattern b Exact ≡ fitOf (unmapped (kindIn f) (kindIn f) mode range b)
 unchanged f row b fits mode range = ap fitOf (same-kind (kindIn f) (row-well-formed f row) b fits mode range)

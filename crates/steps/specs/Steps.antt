@@ -5,13 +5,14 @@ use Rattle.patterns.specs.Kind.{Kind}
 use Rattle.kinds.specs.declared.Lookup.{Lookup}
 use Rattle.kinds.specs.declared.Lookup.the-variants.{Found, Missing}
 use Rattle.kinds.specs.declared.OutOfRangeMode.{OutOfRangeMode}
+use Rattle.kinds.specs.declared.Fared.the-variants.{Mapped}
 use Rattle.kinds.specs.declared.Fit.{Fit}
 use Rattle.kinds.specs.declared.Fit.the-variants.{Pattern}
 use Rattle.cast_spec.specs.Fit.{fitOf, unmapped}
 
 -- a fit, unless the map found a target
 abbrev pub foundFit : Lookup → Fit → Fit
-foundFit (Found t) x = Pattern t
+foundFit (Found t) x = Pattern t Mapped
 foundFit Missing x = x
 
 -- the fit of an element for which the map found f

@@ -21,7 +21,7 @@ pub fn step_int_to_int(x: Integer, found: Lookup, to: IntegerFormat, range: OutO
     ensures { λ r. ⌜ ((mode : RoundingMode) → r ≡ foundFit found (fitInteger (integerOf to) mode range x)) ⌝ }
 {
     if let Lookup::Found(pattern) = found {
-        return Fit::Pattern(pattern);
+        return kinds::mapped(pattern);
     }
     conversions::convert_int_to_int(x, to, range)
 }
@@ -38,7 +38,7 @@ pub fn step_int_to_float(
     ensures { λ r. ⌜ r ≡ foundFit found (fitInteger (floatOf to) mode range x) ⌝ }
 {
     if let Lookup::Found(pattern) = found {
-        return Fit::Pattern(pattern);
+        return kinds::mapped(pattern);
     }
     conversions::convert_int_to_float(x, to, mode, range)
 }
@@ -55,7 +55,7 @@ pub fn step_float_to_int(
     ensures { λ r. ⌜ r ≡ foundFit found (fitFloat (integerOf to) mode range x) ⌝ }
 {
     if let Lookup::Found(pattern) = found {
-        return Fit::Pattern(pattern);
+        return kinds::mapped(pattern);
     }
     conversions::convert_float_to_int(x, to, mode, range)
 }
@@ -72,7 +72,7 @@ pub fn step_float_to_float(
     ensures { λ r. ⌜ r ≡ foundFit found (fitFloat (floatOf to) mode range x) ⌝ }
 {
     if let Lookup::Found(pattern) = found {
-        return Fit::Pattern(pattern);
+        return kinds::mapped(pattern);
     }
     conversions::convert_float_to_float(x, to, mode, range)
 }

@@ -11,6 +11,7 @@ use denote.Builtin as B
 use Rattle.bytes_le.specs.Bytes.{toLe}
 use Rattle.patterns.specs.Pattern.{nanPattern}
 use Rattle.patterns.specs.Kind.{f64}
+use Rattle.kinds.specs.declared.Fared.{Fared}
 use Rattle.kinds.specs.declared.Outcome.the-variants.{Stored}
 use Rattle.cast_spec.specs.Element.{outcomeOf}
 use Rattle.typed_values.proofs.Signed.{again}
@@ -34,11 +35,11 @@ u8-kept b = ap (λ (z : ℕ). z ∷ []) (mod-mod (b % 256) 256 ∙ mod-mod b 256
 pub i32-kept : (b : ℕ) → toLe 4 (i32Bits (i32Of b)) ≡ toLe 4 b
 i32-kept b = ap (toLe 4) (again b) ∙ low-bytes 4 b
 
-pub f64-to-f32-kept : (es : List Entry) (rounding range : ℕ) (x : Float) (b : ℕ) → outcomeOf (settings 9 8 (map f64F32 es) rounding range) (f64Bits x) ≡ Stored b → toLe 4 (f32Bits (f32Of b)) ≡ toLe 4 b
-f64-to-f32-kept es rounding range x b e = read-back b (stored-back f64F32 (λ z. bits-are-back (z .target)) es (settings 9 8 (map f64F32 es) rounding range) refl refl (f64Bits x) b (λ h. subst (λ (z : ℕ). Back (nanPattern f64 24 8 z)) (sym (quiet binary64 x h)) quiet-kept) e)
+pub f64-to-f32-kept : (es : List Entry) (rounding range : ℕ) (x : Float) (b : ℕ) (f : Fared) → outcomeOf (settings 9 8 (map f64F32 es) rounding range) (f64Bits x) ≡ Stored b f → toLe 4 (f32Bits (f32Of b)) ≡ toLe 4 b
+f64-to-f32-kept es rounding range x b f e = read-back b (stored-back f64F32 (λ z. bits-are-back (z .target)) es (settings 9 8 (map f64F32 es) rounding range) refl refl (f64Bits x) b f (λ h. subst (λ (z : ℕ). Back (nanPattern f64 24 8 z)) (sym (quiet binary64 x h)) quiet-kept) e)
 
-pub i64-to-f32-kept : (es : List EntryI64F32) (rounding range : ℕ) (x : ℤ) (b : ℕ) → outcomeOf (settings 3 8 (map i64F32 es) rounding range) (i64Bits x) ≡ Stored b → toLe 4 (f32Bits (f32Of b)) ≡ toLe 4 b
-i64-to-f32-kept es rounding range x b e = read-back b (stored-back i64F32 (λ z. bits-are-back (z .target)) es (settings 3 8 (map i64F32 es) rounding range) refl refl (i64Bits x) b (λ h. absurd (no-integer-nan true 64 (i64Bits x) h)) e)
+pub i64-to-f32-kept : (es : List EntryI64F32) (rounding range : ℕ) (x : ℤ) (b : ℕ) (f : Fared) → outcomeOf (settings 3 8 (map i64F32 es) rounding range) (i64Bits x) ≡ Stored b f → toLe 4 (f32Bits (f32Of b)) ≡ toLe 4 b
+i64-to-f32-kept es rounding range x b f e = read-back b (stored-back i64F32 (λ z. bits-are-back (z .target)) es (settings 3 8 (map i64F32 es) rounding range) refl refl (i64Bits x) b f (λ h. absurd (no-integer-nan true 64 (i64Bits x) h)) e)
 
 abbrev pub f64-to-u8 : Pair
 f64-to-u8 = record {
@@ -59,7 +60,7 @@ f64-to-u8 = record {
     source-fits = f64-fits;
     key-fits = λ e. f64-fits (e .key);
     target-fits = λ e. u8-fits (e .target);
-    keeps = λ es rounding range x b e. u8-kept b;
+    keeps = λ es rounding range x b f e. u8-kept b;
   };
   own = λ x h. refl;
 }
@@ -83,7 +84,7 @@ f64-to-i32 = record {
     source-fits = f64-fits;
     key-fits = λ e. f64-fits (e .key);
     target-fits = λ e. i32-fits (e .target);
-    keeps = λ es rounding range x b e. i32-kept b;
+    keeps = λ es rounding range x b f e. i32-kept b;
   };
   own = λ x h. refl;
 }
@@ -107,7 +108,7 @@ f32-to-u8 = record {
     source-fits = f32-fits;
     key-fits = λ e. f32-fits (e .key);
     target-fits = λ e. u8-fits (e .target);
-    keeps = λ es rounding range x b e. u8-kept b;
+    keeps = λ es rounding range x b f e. u8-kept b;
   };
   own = λ x h. mod-eq-of-lt h;
 }

@@ -11,12 +11,15 @@ use lib.Ieee as F
 use lib.Ieee.{Float, Format, binary32, binary64, toBits}
 use lib.ListN.{length}
 use Rattle.grid.specs.Round.{pick}
+use Rattle.grid.specs.Ternary.{ternaryOf}
 use Rattle.patterns.specs.Kind.{Kind, integer, binary, f64, gridOf}
 use Rattle.patterns.specs.Value.{Value, nan, inf, num, negative, valueOf}
 use Rattle.patterns.specs.Pattern.{patternOf, infinity, nanPattern, asF64, asF64From}
 use Rattle.patterns.proofs.Floats.{inf-back}
 use Rattle.patterns.proofs.Ieee.{kindFor}
 use Rattle.kinds.specs.Codes.{kindOf}
+use Rattle.kinds.specs.Counts.{byPick}
+use Rattle.kinds.specs.declared.Fared.{Fared}
 use Rattle.kinds.specs.declared.OutOfRangeMode.{OutOfRangeMode}
 use Rattle.kinds.specs.declared.OutOfRangeMode.the-variants.{None, Clamp, Wrap}
 use Rattle.kinds.specs.declared.Lookup.{Lookup}
@@ -25,6 +28,7 @@ use Rattle.kinds.specs.declared.Outcome.{Outcome}
 use Rattle.kinds.specs.declared.Outcome.the-variants.{Stored, NanOrInf, OutOfRange, FloatOutOfRange}
 use Rattle.kinds.specs.declared.Answer.{Answer}
 use Rattle.kinds.specs.declared.Answer.the-variants as A
+use Rattle.kinds.specs.declared.Reply.{Reply}
 use Rattle.cast_spec.specs.Element.{Settings, lookupOf, foundOr, inRange, beyond, converted, outcomeOf}
 use Rattle.kinds.specs.Answer.{Values, elementValues, outcomeNumber, outcomeValues}
 use Rattle.cast_spec.specs.Chunk.{Inputs, callOf, outcomeAt}
@@ -42,7 +46,7 @@ use Rattle.typed.proofs.Pairs as pairs
 abbrev OfNanOrInf : Kind → ℕ → ℕ → Type 0
 OfNanOrInf k b v = ((valueOf k b ≡ nan) × (nanPattern k 53 11 b ≡ v)) ⊎ ((neg : Bool) × (infinity 53 11 neg ≡ v))
 
-stored-apart : {b v : ℕ} → Stored b ≡ NanOrInf v → ⊥
+stored-apart : {b v : ℕ} {f : Fared} → Stored b f ≡ NanOrInf v → ⊥
 stored-apart e = let z : _≡_ {A = ℕ} 0 1 = cc in omega arith
 
 beyond-apart : (k : Kind) (r : OutOfRangeMode) (u : ℕ) (neg : Bool) (y : ℤ) (v : ℕ) → beyond k r u neg y ≡ NanOrInf v → ⊥
@@ -57,11 +61,11 @@ beyond-apart (binary p w s) Wrap u neg y v e = let z : _≡_ {A = ℕ} 0 1 = cc 
 -- ---- one element
 module _ (S : Settings) (b v : ℕ) where
   of-value : (k : Kind) (u : Value) → valueOf (S .from) b ≡ u → converted S b k u ≡ NanOrInf v → OfNanOrInf (S .from) b v
-  of-value k (num x) h e = absurd (go (inRange k (pick (gridOf k) (S .rule) x)) (patternOf k (negative (S .from) b) (pick (gridOf k) (S .rule) x)) e)
+  of-value k (num x) h e = absurd (go (inRange k (pick (gridOf k) (S .rule) x)) (patternOf k (negative (S .from) b) (pick (gridOf k) (S .rule) x)) (byPick (ternaryOf x (pick (gridOf k) (S .rule) x))) e)
     where
-      go : (t : Bool) (a : ℕ) → cond t (Stored a) (beyond k (S .range) (asF64 (S .from) b) (negative (S .from) b) (pick (gridOf k) (S .rule) x)) ≡ NanOrInf v → ⊥
-      go true a e = stored-apart e
-      go false a e = beyond-apart k (S .range) (asF64 (S .from) b) (negative (S .from) b) (pick (gridOf k) (S .rule) x) v e
+      go : (t : Bool) (a : ℕ) (f : Fared) → cond t (Stored a f) (beyond k (S .range) (asF64 (S .from) b) (negative (S .from) b) (pick (gridOf k) (S .rule) x)) ≡ NanOrInf v → ⊥
+      go true a f e = stored-apart e
+      go false a f e = beyond-apart k (S .range) (asF64 (S .from) b) (negative (S .from) b) (pick (gridOf k) (S .rule) x) v e
   of-value (integer s n) (inf neg) h e = let f : asF64 (S .from) b ≡ v = cc in inr (neg, sym (ap (asF64From (S .from) b) h) ∙ f)
   of-value (integer s n) nan h e = let f : asF64 (S .from) b ≡ v = cc in inl (h, sym (ap (asF64From (S .from) b) h) ∙ f)
   of-value (binary p w s) (inf neg) h e = absurd (stored-apart e)
@@ -77,12 +81,12 @@ module _ (S : Settings) (b v : ℕ) where
 
 -- ---- an outcome of the number 5 has the value that the answer has
 of-number-5 : (i v : ℕ) (x : Outcome) → outcomeNumber x ≡ 5 → elementValues i v 0 0 ≡ outcomeValues i x → x ≡ NanOrInf v
-of-number-5 i v (Stored b) n e = absurd (omega arith)
+of-number-5 i v (Stored b f) n e = absurd (omega arith)
 of-number-5 i v (NanOrInf u) n e = ap NanOrInf (sym (ap (λ (a : Values). a .value) e))
 of-number-5 i v (OutOfRange u lo hi) n e = absurd (omega arith)
 of-number-5 i v (FloatOutOfRange u lo hi) n e = absurd (omega arith)
 
-told : (I : Inputs) (r : Answer) (d : List ℕ) (i v : ℕ) → Contract I r d → r ≡ A.NanOrInf i v → (i < callOf I .count) × (outcomeAt (callOf I) i ≡ NanOrInf v)
+told : (I : Inputs) (r : Reply) (d : List ℕ) (i v : ℕ) → Contract I r d → r .answer ≡ A.NanOrInf i v → (i < callOf I .count) × (outcomeAt (callOf I) i ≡ NanOrInf v)
 told I r d i v c e =
     let D = subst (λ (a : Answer). Demand1 I a d) e (c .demand1) in
     let f = D .first-bad 5 i (lit≤ tt) .0 (refl, refl) in
@@ -99,8 +103,8 @@ abbrev Settled : {X Y Z : Type 0} → Elements X Y Z → X → Type 0
 Settled P x = valueOf (kindOf (P .from)) (P .source-bits x) ≡ nan → nanPattern (kindOf (P .from)) 53 11 (P .source-bits x) ≡ refusedNan
 
 abbrev pub RefusalsSettled : {X Y Z : Type 0} → Elements X Y Z → Type 0
-RefusalsSettled {X} {Y} {Z} P = (xs : List X) (ys : List Z) (rounding range : ℕ) (qs ds : List ℕ) (r : Answer) → TypedContract (P .from) (P .to) (map (P .source-bits) xs) qs (map (P .entry-bits) ys) rounding range r ds
-    → (i v : ℕ) → r ≡ A.NanOrInf i v → valueOf f64 v ≡ nan → v ≡ refusedNan
+RefusalsSettled {X} {Y} {Z} P = (xs : List X) (ys : List Z) (rounding range : ℕ) (qs ds : List ℕ) (r : Reply) → TypedContract (P .from) (P .to) (map (P .source-bits) xs) qs (map (P .entry-bits) ys) rounding range r ds
+    → (i v : ℕ) → r .answer ≡ A.NanOrInf i v → valueOf f64 v ≡ nan → v ≡ refusedNan
 
 refused-nan : {X Y Z : Type 0} (P : Elements X Y Z) → ((x : X) → Settled P x) → RefusalsSettled P
 refused-nan {X} P settled xs ys rounding range qs ds r c i v e h =

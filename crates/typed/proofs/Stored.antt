@@ -12,6 +12,7 @@ use lib.Ieee.{binary32, fits, ofBits, toBits}
 use lib.Dec.{T, lit<, lit≤}
 use Rattle.grid.specs.Round.{pick, signed}
 use Rattle.grid.specs.Grid.{OnGrid}
+use Rattle.grid.specs.Ternary.{ternaryOf}
 use Rattle.grid.proofs.Picked.{picked}
 use Rattle.bytes_le.specs.Bytes.{toLe}
 use Rattle.patterns.specs.Kind.{Kind, f32, gridOf, lowest, highest, InRange, WellFormed}
@@ -19,6 +20,8 @@ use Rattle.patterns.specs.Pattern.{patternOf, infinity, nanPattern, asF64}
 use Rattle.patterns.proofs.Floats.{inf-back, inf-fits}
 use Rattle.patterns.specs.Value.{Value, nan, inf, num, negative, valueOf}
 use Rattle.patterns.proofs.AnyKind.{sound, sign-of, pick-sign, pattern-back, pattern-fits}
+use Rattle.kinds.specs.Counts.{byPick}
+use Rattle.kinds.specs.declared.Fared.{Fared}
 use Rattle.kinds.specs.declared.OutOfRangeMode.{OutOfRangeMode}
 use Rattle.kinds.specs.declared.OutOfRangeMode.the-variants.{None, Clamp, Wrap}
 use Rattle.kinds.specs.declared.Lookup.the-variants.{Found}
@@ -36,7 +39,7 @@ read-back b k =
     ∙ ap (λ (z : ℕ). toLe 4 (toBits binary32 (ofBits binary32 z))) (mod-eq-of-lt (k .1)) ∙ ap (toLe 4) (k .0)
 
 abbrev Good : Outcome → Type 0
-Good (Stored b) = Back b
+Good (Stored b f) = Back b
 Good (NanOrInf v) = Unit {0}
 Good (OutOfRange v lo hi) = Unit {0}
 Good (FloatOutOfRange v lo hi) = Unit {0}
@@ -56,13 +59,13 @@ beyond-good None u neg y = tt
 beyond-good Clamp u neg y = not-nan (infinity 24 8 neg) (inf-fits 24 8 925 (lit≤ tt) (lit< tt) neg) (λ e. let f = sym (inf-back 24 8 925 (lit≤ tt) (lit< tt) neg) ∙ e in let z : _≡_ {A = ℕ} 0 1 = cc in omega arith)
 beyond-good Wrap u neg y = tt
 
-ranged-good : (m : OutOfRangeMode) (u : ℕ) (neg : Bool) (y : ℤ) → OnGrid (gridOf f32) y → y ≡ signed neg (natAbs y) → Good (ranged f32 m u neg y)
-ranged-good m u neg y on e = go (leZ (lowest f32) y) (leZ y (highest f32)) leZ-yes leZ-yes
+ranged-good : (m : OutOfRangeMode) (u : ℕ) (neg : Bool) (x y : ℤ) → OnGrid (gridOf f32) y → y ≡ signed neg (natAbs y) → Good (ranged f32 m u neg x y)
+ranged-good m u neg x y on e = go (leZ (lowest f32) y) (leZ y (highest f32)) leZ-yes leZ-yes
   where
     ok : WellFormed f32
     ok = (lit≤ tt, lit< tt)
 
-    go : (c d : Bool) → (T c → lowest f32 ≤ℤ y) → (T d → y ≤ℤ highest f32) → Good (cond (c && d) (Stored (patternOf f32 neg y)) (beyond f32 m u neg y))
+    go : (c d : Bool) → (T c → lowest f32 ≤ℤ y) → (T d → y ≤ℤ highest f32) → Good (cond (c && d) (Stored (patternOf f32 neg y) (byPick (ternaryOf x y))) (beyond f32 m u neg y))
     go true true a b = let h : InRange f32 y = (a tt, b tt) in not-nan (patternOf f32 neg y) (pattern-fits f32 neg y ok on h) (λ g. let f = sym (pattern-back f32 neg y ok on h e) ∙ g in let z : _≡_ {A = ℕ} 0 1 = cc in omega arith)
     go true false a b = beyond-good m u neg y
     go false d a b = beyond-good m u neg y
@@ -72,15 +75,15 @@ module _ (S : Settings) (b : ℕ) (quiet-nan : valueOf (S .from) b ≡ nan → B
   unfolding beyond
   converted-good (num x) e =
       let P = picked (gridOf f32) (sound f32 (lit≤ tt, lit< tt)) (S .rule) x in
-      ranged-good (S .range) (asF64 (S .from) b) (negative (S .from) b) (pick (gridOf f32) (S .rule) x) (P .on) (pick-sign (gridOf f32) (sound f32 (lit≤ tt, lit< tt)) (S .rule) (negative (S .from) b) x (sign-of (S .from) b x e))
+      ranged-good (S .range) (asF64 (S .from) b) (negative (S .from) b) x (pick (gridOf f32) (S .rule) x) (P .on) (pick-sign (gridOf f32) (sound f32 (lit≤ tt, lit< tt)) (S .rule) (negative (S .from) b) x (sign-of (S .from) b x e))
   converted-good (inf neg) e = beyond-good Clamp 0 neg (pos 0)
   converted-good nan e = quiet-nan e
 
 -- ---- what is stored by settings to f32, whose entries have such targets
-pub stored-back : {Z : Type 0} (of : Z → Entry) → ((z : Z) → Back (of z .target)) → (zs : List Z) (S : Settings) → S .to ≡ f32 → S .entries ≡ map of zs → (x b : ℕ)
-    → (valueOf (S .from) x ≡ nan → Back (nanPattern (S .from) 24 8 x)) → outcomeOf S x ≡ Stored b → Back b
+pub stored-back : {Z : Type 0} (of : Z → Entry) → ((z : Z) → Back (of z .target)) → (zs : List Z) (S : Settings) → S .to ≡ f32 → S .entries ≡ map of zs → (x b : ℕ) (f : Fared)
+    → (valueOf (S .from) x ≡ nan → Back (nanPattern (S .from) 24 8 x)) → outcomeOf S x ≡ Stored b f → Back b
 unfolding outcomeOf
-stored-back of h zs S to es x b q e =
+stored-back of h zs S to es x b f q e =
     let v = valueOf (S .from) x in
     subst Good (ap (λ (k : Kind). foundOr (lookupOf (S .from) v (map of zs)) (converted S x k v)) (sym to) ∙ ap (λ (l : List Entry). foundOr (lookupOf (S .from) v l) (converted S x (S .to) v)) (sym es) ∙ e)
     (found-good of h (S .from) v zs (converted S x f32 v) (converted-good S x q v refl))

@@ -33,7 +33,6 @@ use denote.Builtin.{u8, SliceRefOf, SliceRefMutOf, ArrayOf}
 use denote.Steps.{owned, facts, heard, nothing}
 use denote.Triple.Clauses.{Ended, Clauses, closing, ensured, lasts}
 use denote.Triple.Spec.{Meets, tripleOf}
-use denote.Enum.Laws as EL
 use denote.Exit.{yes, Exit, unchanged, Last, left, each-of}
 use denote.Signature.{plain}
 use denote.Triple.Entry.{Vals, onEntry}
@@ -43,9 +42,9 @@ use denote.Struct.Laws as LL
 use denote.Plain.{uint-makes, uint-vals, uint-tells}
 use denote.Triple.Statement.{Contract, Triple}
 use denote.Laws.{Is, Makes, shows}
-use Rattle.kinds.specs.declared.Answer.{Answer}
-use Rattle.kinds.proofs.Answer as R
-use Rattle.kinds.proofs.Answer.Laws as R′
+use Rattle.kinds.specs.declared.Reply.{Reply}
+use Rattle.kinds.proofs.Reply as R
+use Rattle.kinds.proofs.Reply.Laws as R′
 use Rattle.walks.proofs.LendArray.{into-parts, back-room}
 use Rattle.typed.proofs.Conversions.{Pair, ended, clauses, Converts}
 
@@ -139,16 +138,16 @@ module _ (P : Pair) (convert-name : Name) (small : Holds (ltb (3 * size (lone (r
     len : length ys ≡ 3
     len = is-three .1 .0 .1
 
-    abbrev Said : Answer → List D₂ → Type 0
+    abbrev Said : Reply → List D₂ → Type 0
     Said r ws = Converts P (a₁ .now) (a₂ .now) ys rounding range r ws
 
-    exits : (r : Answer) (u : Val) (ws : List D₂) → length ws ≡ length (a₂ .now) → Said r ws → Is R.the-row r (u ∷ []) → ent 𝓤 (⋆ 𝓤 H A (‵ (flft κ₀ q₀) ∷ ‵ (flft κ₁ q₁) ∷ ‵ (finally R₂ (a₂ .name) ws) ∷ ‵ Own₁ ∷ [])) (Post u)
+    exits : (r : Reply) (u : Val) (ws : List D₂) → length ws ≡ length (a₂ .now) → Said r ws → Is R.the-row r (u ∷ []) → ent 𝓤 (⋆ 𝓤 H A (‵ (flft κ₀ q₀) ∷ ‵ (flft κ₁ q₁) ∷ ‵ (finally R₂ (a₂ .name) ws) ∷ ‵ Own₁ ∷ [])) (Post u)
     exits r u ws l e is =
         qed W (‵ (flft κ₀ q₀) ∷ ‵ (flft κ₁ q₁) ∷ ‵ (finally R₂ (a₂ .name) ws) ∷ ‵ Own₁ ∷ []) ∵
         suffices ! _ (ends-at 𝓤 H A ended′ stayed (clauses′ 𝓤) W (((κ₀, (κ₁, tt)), (q₀, (q₁, tt)), tt, (a₁, (a₂, (ys, (rounding, (range, tt))))), at), tt) u r (tt, (ws, (passed ys, (tt, (tt, tt))))) (tt, (l, (tt, (tt, (tt, tt)))))) $ says ! e $
         nothing ! $ move ! (2 ∷ 0 ∷ []) $ join ! $ move ! (1 ∷ 0 ∷ []) $ join ! $
         nothing ! $ owned ! u8 (Is u8) (uint-makes 𝓤 H A W w8) range _ (refl, fits₅) $ fjoin ! $ owned ! u8 (Is u8) (uint-makes 𝓤 H A W w8) rounding _ (refl, fits₄) $ fjoin ! $ owned ! Three (Is Three) (array-makes 𝓤 H A W R₃ mk 3) ys (v ∷ []) is-three $ fjoin ! $ move ! (2 ∷ 0 ∷ []) $ fjoin ! $ move ! (2 ∷ 0 ∷ []) $ fjoin ! $ move ! (1 ∷ 0 ∷ []) $
-        frame ! $ frame ! $ owned ! R.the-row (Is R.the-row) (EL.makes R.the-type R′.the-plain 𝓤 H A) r (u ∷ []) is $ done !
+        frame ! $ frame ! $ owned ! R.the-row (Is R.the-row) (LL.makes R.the-type R′.the-plain 𝓤 H A) r (u ∷ []) is $ done !
 
     -- the slice that is lent: the slot at l, under the name γ, for the lifetime ν
     abbrev s : ℕ → GName → RefT (List D₃)
@@ -193,7 +192,7 @@ module _ (P : Pair) (convert-name : Name) (small : Holds (ltb (3 * size (lone (r
           ∷ ‵ (owns (ShrSlice (named 0) κ₀ R₁ ∷ MutSlice (named 1) κ₁ R₂ ∷ ShrSlice (named 2) (ν ∷ []) R₃ ∷ u8 ∷ u8 ∷ []) (a₁, (a₂, (s l₆ γ, (rounding, (range, tt))))) (v₁ ∷ [], (v₂ ∷ [], (sv l₆ (length ys) ∷ [], (vint w8 rounding ∷ [], (vint w8 range ∷ [], tt)))))) ∷ []) ∵ join ! $ frame ! $ done !) $
           -- [what the callee asks; what src owns; what waits; true; the locals at 4]
           calls-at ! fm (Convert 𝓤 H A) known (to ν l₆ γ) (and-then ! (load ! (from ! (stop !)) (look ! 21 refl)) (and-then ! (load ! (from ! (stop !)) (look ! 8 refl)) (and-then ! (load ! (from ! (stop !)) (look ! 4 refl)) (and-then ! (load ! (from ! (stop !)) (look ! 15 refl)) (and-then ! (load ! (from ! (stop !)) (look ! 13 refl)) (no-more !)))))) (λ u.
-          use1 W (later (some (λ (r : Answer). ((‵ (flft κ₀ q₀) ⊛ (‵ (flft κ₁ q₁) ⊛ (‵ (flft (ν ∷ []) fullShare) ⊛ ‵ ftrue))) ⊛ ‵ (R.the-row .own r (u ∷ [])))
+          use1 W (later (some (λ (r : Reply). ((‵ (flft κ₀ q₀) ⊛ (‵ (flft κ₁ q₁) ⊛ (‵ (flft (ν ∷ []) fullShare) ⊛ ‵ ftrue))) ⊛ ‵ (R.the-row .own r (u ∷ [])))
           ⊛ raw (ensured 𝓤 H A (ended P) (clauses P 𝓤) (κ₀, (κ₁, (ν ∷ [], tt))) (a₁, (a₂, (s l₆ γ, (rounding, (range, tt))))) tt r)))) (id⊢ 𝓤 _) $ await ! tt $ pick ! (λ r.
           split ! $ move ! (1 ∷ []) $ use1 W (some (λ (ws : Unit {0} × (List D₂ × (Unit {0} × (Unit {0} × (Unit {0} × Unit {0}))))). ‵ (lasts (ended P) (κ₀, (κ₁, (ν ∷ [], tt))) (a₁, (a₂, (s l₆ γ, (rounding, (range, tt))))) ws) ⊛ raw (fact 𝓤 (Said r (ws .1 .0))))) (id⊢ 𝓤 _) $ pick ! (λ ws.
           split ! $ move ! (1 ∷ []) $ heard ! (Said r (ws .1 .0)) (λ e. fsplit ! $ drop ! $ fsplit ! $ fsplit ! $ move ! (1 ∷ []) $ feqL ! (λ l.
@@ -201,7 +200,7 @@ module _ (P : Pair) (convert-name : Name) (small : Holds (ltb (3 * size (lone (r
           move ! (2 ∷ []) $ split ! $ move ! (1 ∷ []) $ facts ! R.the-row (Is R.the-row) (shows 𝓤 H A R.the-row) r (u ∷ []) (λ is.
           split ! $ move ! (1 ∷ []) $ split ! $ move ! (1 ∷ []) $ split ! $ lft-end ! tt $ move ! (0 ∷ 7 ∷ []) $ lent-back ! tt $ rewrite ! 0 (λ (m : ℕ). ‵ (Parts l₆ m)) len refl $ use1 W (‵ (froom (tyArray Mem 3) l₆ 0)) (back-room 𝓤 H A W R₃ 3 ys l₆ 0) $
           -- [room for _6; true; dst's token; src's; dst's last list; true; what src owns; true; the locals at 8]
-          land ! (from ! (stop !)) (init ! 27 refl (EL.lawful R.the-type R′.the-laws 𝓤 H A W tt .typed r (u ∷ []) is .0)) $
+          land ! (from ! (stop !)) (init ! 27 refl (LL.lawful R.the-type R′.the-laws 𝓤 H A W .typed r (u ∷ []) is .0)) $
           returns ! (look ! 27 refl) $ forget ! 8 refl $ forget ! 10 refl $ forget ! 12 refl $ forget ! 14 refl $ forget ! 17 refl $ forget ! 19 refl $ forget ! 21 refl $ forget ! 23 refl $ forget ! 25 refl $ forget ! 27 refl $
           move ! (27 ∷ 28 ∷ []) $ free1 ! $ move ! (25 ∷ 26 ∷ []) $ free1 ! $ move ! (23 ∷ 24 ∷ []) $ free1 ! $ move ! (21 ∷ 22 ∷ []) $ free1 ! $ move ! (19 ∷ 20 ∷ []) $ free1 ! $ move ! (17 ∷ 18 ∷ []) $ free1 ! $ move ! (0 ∷ 16 ∷ []) $ free1 ! $ move ! (13 ∷ 14 ∷ []) $ free1 ! $ move ! (11 ∷ 12 ∷ []) $ free1 ! $ move ! (9 ∷ 10 ∷ []) $ free1 ! $ move ! (7 ∷ 8 ∷ []) $ free1 ! $ free0 ! $
           keep ! (2 ∷ 1 ∷ 3 ∷ 5 ∷ []) $ by ! (exits r u (ws .1 .0) l e is))))))))))))))))))))

@@ -13,7 +13,12 @@ use Rattle.bytes_le.specs.Bytes.{toLe}
 use Rattle.grid.specs.declared.RoundingMode.{RoundingMode}
 use Rattle.patterns.specs.Kind.{bits, width}
 use Rattle.patterns.specs.Value.{valueOf}
+use Rattle.kinds.specs.Counts.{noCounts, countOf, countsIn}
+use Rattle.kinds.specs.Tally.{noTally, counted, Countable}
 use Rattle.kinds.specs.declared.Answer.{Answer}
+use Rattle.kinds.specs.declared.Counts.{Counts}
+use Rattle.kinds.specs.declared.Fared.{Fared}
+use Rattle.kinds.specs.declared.Reply.{Reply}
 use Rattle.kinds.specs.declared.OutOfRangeMode.{OutOfRangeMode}
 use Rattle.kinds.specs.declared.Lookup.{Lookup}
 use Rattle.kinds.specs.declared.Outcome.{Outcome}
@@ -26,12 +31,12 @@ use Rattle.cast_spec.proofs.Contract.{contract}
 use Rattle.cast_spec.proofs.Checks.{answer-is, destination-is}
 use Rattle.cast_spec.proofs.Widths.{kind-fits, width-pos}
 use Rattle.cast_spec.proofs.Refusals.{unknown, mismatch}
-use Rattle.cast_spec.proofs.Runs.{Run, done, refused, kept}
+use Rattle.cast_spec.proofs.Runs.{Run, done, refused, kept, one-more, count-le, refused-converted}
 use Rattle.cast_spec.specs.Element.{Entry, Settings, lookupOf, foundOr, outcomeOf}
 use Rattle.cast_spec.specs.Fit.{unmapped}
-use Rattle.cast_spec.specs.Chunk.{Inputs, settingsOf, codesListed, mapWhole, bytesWhole, callOf, outcomeAt, answerNext, answerFrom, answerOf, bytesFrom, destinationOf, entriesFrom, Refuses}
+use Rattle.cast_spec.specs.Chunk.{Inputs, settingsOf, codesListed, mapWhole, bytesWhole, callOf, outcomeAt, answerNext, answerFrom, answerOf, bytesFrom, destinationOf, convertedOf, countsBelow, countsOf, entriesFrom, Refuses}
 use Rattle.typed_states.specs.States.{going, stopped, stateAt, startOf}
-use Rattle.typed.specs.Loop.{outcomeFor, nextState, storedIn}
+use Rattle.typed.specs.Loop.{outcomeFor, nextState, storedIn, TalliedBy}
 use Rattle.typed.specs.Typed.{bytesOf, typedInputs}
 use Rattle.typed_states.specs.declared.State.{State}
 use Rattle.typed.proofs.Places.{map-set, mapped-below, entry-below, some-element, length-bytes, pattern-at, set-bytes, entries-back}
@@ -57,7 +62,7 @@ pub record Elements (X Y Z : Type 0) : Type 0 where
   pub key-fits : (e : Z) → entry-bits e .key < 2 ^ bits (kindOf from)
   pub target-fits : (e : Z) → entry-bits e .target < 2 ^ bits (kindOf to)
   -- a pattern that is stored is the one that the element then has
-  pub keeps : (es : List Z) (rounding range : ℕ) (x : X) (b : ℕ) → outcomeOf (settings from to (map entry-bits es) rounding range) (source-bits x) ≡ Stored b
+  pub keeps : (es : List Z) (rounding range : ℕ) (x : X) (b : ℕ) (f : Fared) → outcomeOf (settings from to (map entry-bits es) rounding range) (source-bits x) ≡ Stored b f
       → toLe (width (kindOf to)) (target-bits (target-of b)) ≡ toLe (width (kindOf to)) b
 
 module _ {X Y Z : Type 0} (P : Elements X Y Z) (xs : List X) (ys : List Z) (rounding range : ℕ) where
@@ -181,74 +186,108 @@ module _ {X Y Z : Type 0} (P : Elements X Y Z) (xs : List X) (ys : List Z) (roun
     abbrev o : ℕ → Outcome
     o = outcomeAt (callOf In)
 
-    -- the element at the state's position is to be converted
-    pub record On (s : State) (zs : List Y) : Type 0 where
+    -- the element at the state's position is to be converted, and the tally ts has those before it
+    pub record On (s : State) (zs : List Y) (ts : List ℕ) : Type 0 where
       pub below : s .at < length ps
       pub meet : length ps ≡ length ds
       pub decoded : Decoded s
       pub x-is : s .x ≡ getD ps (s .at) 0
       pub run : Run o w (length ps) R W (s .at) (bytes zs)
+      pub counts : countsIn ts ≡ countsBelow o (s .at)
 
-    -- what holds where the loop's test is reached, at the destination zs
-    pub record Inv (s : State) (zs : List Y) : Type 0 where
+    abbrev reply : Answer → List ℕ → Reply
+    reply a ts = record { answer = a; counts = countsIn ts }
+
+    -- what holds where the loop's test is reached, at the destination zs and the tally ts
+    pub record Inv (s : State) (zs : List Y) (ts : List ℕ) : Type 0 where
       pub long : length zs ≡ length ds
-      pub on : s .more ≡ true → On s zs
-      pub off : s .more ≡ false → Contract In (s .answer) (bytes zs)
+      pub six : length ts ≡ 6
+      pub on : s .more ≡ true → On s zs ts
+      pub off : s .more ≡ false → Contract In (reply (s .answer) ts) (bytes zs)
 
     -- so many turns at most are left
     abbrev pub left : State → ℕ
     left s = cond (s .more) (suc (length ps - s .at)) 0
 
-    over : (s : State) (i : ℕ) (a : Answer) (zs : List Y) → length zs ≡ length ds → Contract In a (bytes zs) → Inv (stopped (s .rounding) (s .range) i a) zs
-    over s i a zs long c = record { long = long; on = λ h. absurd (true≢false (sym h)); off = λ _. c }
+    over : (s : State) (i : ℕ) (a : Answer) (zs : List Y) (ts : List ℕ) → length zs ≡ length ds → length ts ≡ 6 → Contract In (reply a ts) (bytes zs) → Inv (stopped (s .rounding) (s .range) i a) zs ts
+    over s i a zs ts long six c = record { long = long; six = six; on = λ h. absurd (true≢false (sym h)); off = λ _. c }
 
-    at-position : (s : State) → Decoded s → (i : ℕ) (zs : List Y) → i ≤ length ps → length ps ≡ length ds → length zs ≡ length ds → Run o w (length ps) R W i (bytes zs) → Inv (stateAt (s .rounding) (s .range) ps i) zs
-    at-position s d i zs h meet long run = go (ltb i (length ps)) refl
+    -- the counts of the elements below i are the call's, where its answer says that so many are converted
+    counts-are : (i : ℕ) (a : Answer) → a ≡ R → convertedOf (callOf In .count) a ≡ i → countsBelow o i ≡ countsOf In
+    unfolding countsOf
+    counts-are i a e h = ap (countsBelow o) (sym h ∙ ap (convertedOf (callOf In .count)) e)
+
+    at-position : (s : State) → Decoded s → (i : ℕ) (zs : List Y) (ts : List ℕ) → i ≤ length ps → length ps ≡ length ds → length zs ≡ length ds → length ts ≡ 6 → Run o w (length ps) R W i (bytes zs) → countsIn ts ≡ countsBelow o i
+        → Inv (stateAt (s .rounding) (s .range) ps i) zs ts
+    at-position s d i zs ts h meet long six run counts = go (ltb i (length ps)) refl
       where
-        go : (t : Bool) → ltb i (length ps) ≡ t → Inv (cond t (going (s .rounding) (s .range) i (getD ps i 0)) (stopped (s .rounding) (s .range) i A.Converted)) zs
-        go true e = record { long = long; on = λ _. record { below = ltb-true i (length ps) e; meet = meet; decoded = record { rule-is = d .rule-is; choice-is = d .choice-is }; x-is = refl; run = run }; off = λ f. absurd (true≢false f) }
+        go : (t : Bool) → ltb i (length ps) ≡ t → Inv (cond t (going (s .rounding) (s .range) i (getD ps i 0)) (stopped (s .rounding) (s .range) i A.Converted)) zs ts
+        go true e = record {
+          long = long;
+          six = six;
+          on = λ _. record { below = ltb-true i (length ps) e; meet = meet; decoded = record { rule-is = d .rule-is; choice-is = d .choice-is }; x-is = refl; run = run; counts = counts };
+          off = λ f. absurd (true≢false f);
+        }
         go false e =
             let l : i ≡ length ps = omega (arith, ltb-false i (length ps) e) in
-            let d = done o w (length ps) R W i (bytes zs) run l in over s i A.Converted zs long (contract In A.Converted (bytes zs) (d .0) (d .1))
+            let d = done o w (length ps) R W i (bytes zs) run l in
+            over s i A.Converted zs ts long six (contract In (reply A.Converted ts) (bytes zs) (d .0) (counts ∙ counts-are i A.Converted (d .0) (count-is (map of ds) ∙ sym l)) (d .1))
 
-    pub starts : Inv (startOf ps (length ds) rounding range) ds
-    starts = by-tests (ltb rounding 5 && ltb range 3) refl (eqb (length ps) (length ds)) refl
+    pub starts : (ts : List ℕ) → ts ≡ noTally → Inv (startOf ps (length ds) rounding range) ds ts
+    starts ts none = by-tests (ltb rounding 5 && ltb range 3) refl (eqb (length ps) (length ds)) refl
       where
+        six : length ts ≡ 6
+        six = ap length none
+
+        none-yet : countsIn ts ≡ noCounts
+        none-yet = ap countsIn none
+
         long : length (map of ds) ≡ length ds
         long = length-map ds of
 
+        uncounted : (a : Answer) → Contract In (record { answer = a; counts = noCounts }) (bytes ds) → Contract In (reply a ts) (bytes ds)
+        uncounted a = subst (λ (c : Counts). Contract In (record { answer = a; counts = c }) (bytes ds)) (sym none-yet)
+
         by-tests : (t : Bool) → ltb rounding 5 && ltb range 3 ≡ t → (u : Bool) → eqb (length ps) (length ds) ≡ u
-            → Inv (let s = cond t (cond u (going rule choice 0 0) (stopped rule choice 0 (A.LengthMismatch (length ps) (length ds)))) (stopped rule choice 0 A.UnknownCode) in cond (s .more) (stateAt (s .rounding) (s .range) ps 0) s) ds
-        by-tests false e u f = over (going rule choice 0 0) 0 A.UnknownCode ds refl (unknown In (codes-are (map of ds) ∙ e))
+            → Inv (let s = cond t (cond u (going rule choice 0 0) (stopped rule choice 0 (A.LengthMismatch (length ps) (length ds)))) (stopped rule choice 0 A.UnknownCode) in cond (s .more) (stateAt (s .rounding) (s .range) ps 0) s) ds ts
+        by-tests false e u f = over (going rule choice 0 0) 0 A.UnknownCode ds ts refl six (uncounted A.UnknownCode (unknown In (codes-are (map of ds) ∙ e)))
         by-tests true e false f =
             let n : length ps ≡ length ds → ⊥ = eqb-false (length ps) (length ds) f in
-            over (going rule choice 0 0) 0 (A.LengthMismatch (length ps) (length ds)) ds refl
-            (subst (λ (r : Answer). Contract In r (bytes ds)) (ap₂ A.LengthMismatch (source-whole (map of ds) .0) (target-whole (map of ds) .0 ∙ long))
-            (mismatch In (codes-are (map of ds) ∙ e) (map-is-whole (map of ds)) (bytes-are-whole (map of ds)) (λ h. n (sym (source-whole (map of ds) .0) ∙ h ∙ target-whole (map of ds) .0 ∙ long))))
-        by-tests true e true f = let m = eqb-true (length ps) (length ds) f in at-position (going rule choice 0 0) (record { rule-is = refl; choice-is = refl }) 0 ds (omega arith) m refl (first (map of ds) e (m ∙ sym long))
+            over (going rule choice 0 0) 0 (A.LengthMismatch (length ps) (length ds)) ds ts refl six
+            (uncounted (A.LengthMismatch (length ps) (length ds))
+            (subst (λ (a : Answer). Contract In (record { answer = a; counts = noCounts }) (bytes ds)) (ap₂ A.LengthMismatch (source-whole (map of ds) .0) (target-whole (map of ds) .0 ∙ long))
+            (mismatch In (codes-are (map of ds) ∙ e) (map-is-whole (map of ds)) (bytes-are-whole (map of ds)) (λ h. n (sym (source-whole (map of ds) .0) ∙ h ∙ target-whole (map of ds) .0 ∙ long)))))
+        by-tests true e true f = let m = eqb-true (length ps) (length ds) f in at-position (going rule choice 0 0) (record { rule-is = refl; choice-is = refl }) 0 ds ts (omega arith) m refl six (first (map of ds) e (m ∙ sym long)) none-yet
 
     -- ---- one turn
-    keeps : (i b : ℕ) → i < length ps → outcomeOf S (getD ps i 0) ≡ Stored b → toLe w (of (read b)) ≡ toLe w b
-    keeps i b h e = let x = some-element (P .source-bits) xs i h in P .keeps ys rounding range (x .0) b (ap (outcomeOf S) (x .1) ∙ e)
+    keeps : (i b : ℕ) (f : Fared) → i < length ps → outcomeOf S (getD ps i 0) ≡ Stored b f → toLe w (of (read b)) ≡ toLe w b
+    keeps i b f h e = let x = some-element (P .source-bits) xs i h in P .keeps ys rounding range (x .0) b f (ap (outcomeOf S) (x .1) ∙ e)
 
-    module _ (s : State) (zs : List Y) (inv : Inv s zs) (more : s .more ≡ true) where
-      now : On s zs
+    module _ (s : State) (zs : List Y) (ts : List ℕ) (inv : Inv s zs ts) (more : s .more ≡ true) where
+      now : On s zs ts
       now = inv .on more
 
       abbrev i : ℕ
       i = s .at
 
-      pub asks : (s .x < 2 ^ bits (kindOf from)) × (s .at < length xs) × (s .at < length zs)
-      asks = (subst (λ (z : ℕ). z < 2 ^ bits (kindOf from)) (sym (now .x-is)) (fits i (now .below)), subst (λ (n : ℕ). i < n) (length-map xs (P .source-bits)) (now .below), omega (arith, now .below, now .meet, inv .long))
+      within : i < length zs
+      within = omega (arith, now .below, now .meet, inv .long)
 
-      turned : (z : Outcome) → z ≡ outcomeOf S (getD ps i 0) → Inv (nextState z ps s) (storedIn read z zs i) × (left (nextState z ps s) < left s)
-      turned z e = (next z (e ∙ sym (outcome-at (map of ds) i (now .below))) e, subst (λ (n : ℕ). left (nextState z ps s) < n) (sym turns-left) (fewer z))
+      -- each count is at most the position, which is below the length of the destination
+      countable : length ds < 2 ^ 64 → Countable ts
+      countable h = record { six = inv .six; room = λ f. let l : countOf f (countsIn ts) ≤ i = subst (λ (c : Counts). countOf f c ≤ i) (sym (now .counts)) (count-le o f i) in omega (arith, l, h, now .below, now .meet) }
+
+      pub asks : length ds < 2 ^ 64 → (s .x < 2 ^ bits (kindOf from)) × (s .at < length xs) × (s .at < length zs) × Countable ts
+      asks h = (subst (λ (z : ℕ). z < 2 ^ bits (kindOf from)) (sym (now .x-is)) (fits i (now .below)), subst (λ (n : ℕ). i < n) (length-map xs (P .source-bits)) (now .below), within, countable h)
+
+      turned : (z : Outcome) → z ≡ outcomeOf S (getD ps i 0) → (ts′ : List ℕ) → TalliedBy z ts ts′ → Inv (nextState z ps s) (storedIn read z zs i) ts′ × (left (nextState z ps s) < left s)
+      turned z e ts′ tallied = (next z (e ∙ sym (outcome-at (map of ds) i (now .below))) e tallied, subst (λ (n : ℕ). left (nextState z ps s) < n) (sym turns-left) (fewer z))
         where
           turns-left : left s ≡ suc (length ps - i)
           turns-left = ap (λ (t : Bool). cond t (suc (length ps - i)) 0) more
 
           fewer : (x : Outcome) → left (nextState x ps s) < suc (length ps - i)
-          fewer (Stored b) = go (ltb (i + 1) (length ps))
+          fewer (Stored b _) = go (ltb (i + 1) (length ps))
             where
               go : (t : Bool) → left (cond t (going (s .rounding) (s .range) (i + 1) (getD ps (i + 1) 0)) (stopped (s .rounding) (s .range) (i + 1) A.Converted)) < suc (length ps - i)
               go true = omega (arith, now .below)
@@ -257,26 +296,29 @@ module _ {X Y Z : Type 0} (P : Elements X Y Z) (xs : List X) (ys : List Z) (roun
           fewer (OutOfRange x lo hi) = omega arith
           fewer (FloatOutOfRange x lo hi) = omega arith
 
-          stays : (x : Outcome) → x ≡ o i → Refuses x → Inv (stopped (s .rounding) (s .range) i (answerNext x i A.Converted)) zs
-          stays x f r =
+          stays : (x : Outcome) → x ≡ o i → Refuses x → ts′ ≡ ts → Inv (stopped (s .rounding) (s .range) i (answerNext x i A.Converted)) zs ts′
+          stays x f r same =
+              let a = answerNext x i A.Converted in
               let g = refused o w (length ps) R W i (bytes zs) (now .run) (now .below) (subst Refuses f r) in
-              over s i (answerNext x i A.Converted) zs (inv .long) (contract In (answerNext x i A.Converted) (bytes zs) (ap (λ (u : Outcome). answerNext u i A.Converted) f ∙ sym (g .0)) (g .1))
+              let is : a ≡ R = ap (λ (u : Outcome). answerNext u i A.Converted) f ∙ sym (g .0) in
+              subst (Inv (stopped (s .rounding) (s .range) i a) zs) (sym same) (over s i a zs ts (inv .long) (inv .six) (contract In (reply a ts) (bytes zs) is (now .counts ∙ counts-are i a is (refused-converted (callOf In .count) i x r)) (g .1)))
 
-          next : (x : Outcome) → x ≡ o i → x ≡ outcomeOf S (getD ps i 0) → Inv (nextState x ps s) (storedIn read x zs i)
-          next (Stored b) f h =
-              let l : i < length zs = asks .2 in
+          next : (x : Outcome) → x ≡ o i → x ≡ outcomeOf S (getD ps i 0) → TalliedBy x ts ts′ → Inv (nextState x ps s) (storedIn read x zs i) ts′
+          next (Stored b how) f h t =
+              let l : i < length zs = within in
               let room : i * w + w ≤ length (bytes zs) = le-trans (le-of-eq (sym (suc-mul i w))) (le-trans (mul-le-mul-right w l) (le-of-eq (sym (length-bytes w (map of zs) ∙ ap (λ (n : ℕ). n * w) (length-map zs of))))) in
-              at-position s (now .decoded) (i + 1) (set zs i (read b)) (omega (arith, now .below)) (now .meet) (length-set zs i (read b) ∙ inv .long)
-              (rw add-one (kept o w (length ps) R W i (bytes zs) (now .run) (now .below) b (bytes (set zs i (read b))) (sym f) room
+              at-position s (now .decoded) (i + 1) (set zs i (read b)) ts′ (omega (arith, now .below)) (now .meet) (length-set zs i (read b) ∙ inv .long) (t .six)
+              (rw add-one (kept o w (length ps) R W i (bytes zs) (now .run) (now .below) b how (bytes (set zs i (read b))) (sym f) room
               (ap (bytesOf w) (map-set of zs i (read b)) ∙ set-bytes w (map of zs) i (of (read b)) (subst (λ (n : ℕ). i < n) (sym (length-map zs of)) l)
-              ∙ ap (λ (t : List ℕ). take (i * w) (bytes zs) ++ (t ++ drop w (drop (i * w) (bytes zs)))) (keeps i b (now .below) (sym h)))))
-          next (NanOrInf x) f h = stays (NanOrInf x) f tt
-          next (OutOfRange x lo hi) f h = stays (OutOfRange x lo hi) f tt
-          next (FloatOutOfRange x lo hi) f h = stays (FloatOutOfRange x lo hi) f tt
+              ∙ ap (λ (t : List ℕ). take (i * w) (bytes zs) ++ (t ++ drop w (drop (i * w) (bytes zs)))) (keeps i b how (now .below) (sym h)))))
+              (t .counts ∙ ap (counted how) (now .counts) ∙ rw add-one (one-more o i b how (sym f)))
+          next (NanOrInf x) f h t = stays (NanOrInf x) f tt t
+          next (OutOfRange x lo hi) f h t = stays (OutOfRange x lo hi) f tt t
+          next (FloatOutOfRange x lo hi) f h t = stays (FloatOutOfRange x lo hi) f tt t
 
-      -- what was found, and what the step then says of the state and of the destination
-      pub turns : (f : Lookup) → f ≡ lookupOf (kindOf from) (valueOf (kindOf from) (s .x)) es → (r : State) (ws : List Y)
-          → (r ≡ nextState (outcomeFor from to s f) ps s) × (ws ≡ storedIn read (outcomeFor from to s f) zs (s .at)) → Inv r ws × (left r < left s)
-      turns f e r ws said =
-          let t = turned (outcomeFor from to s f) (outcome-is s f (now .decoded) e ∙ ap (outcomeOf S) (now .x-is)) in
-          (subst (λ (p : State × List Y). Inv (p .0) (p .1)) (λ j. (sym (said .0) j, sym (said .1) j)) (t .0), subst (λ (x : State). left x < left s) (sym (said .0)) (t .1))
+      -- what was found, and what the step then says of the state, of the destination and of the tally
+      pub turns : (f : Lookup) → f ≡ lookupOf (kindOf from) (valueOf (kindOf from) (s .x)) es → (r : State) (ws : List Y) (ts′ : List ℕ)
+          → (r ≡ nextState (outcomeFor from to s f) ps s) × (ws ≡ storedIn read (outcomeFor from to s f) zs (s .at)) × TalliedBy (outcomeFor from to s f) ts ts′ → Inv r ws ts′ × (left r < left s)
+      turns f e r ws ts′ said =
+          let t = turned (outcomeFor from to s f) (outcome-is s f (now .decoded) e ∙ ap (outcomeOf S) (now .x-is)) ts′ (said .2) in
+          (subst (λ (p : State × List Y). Inv (p .0) (p .1) ts′) (λ j. (sym (said .0) j, sym (said .1) j)) (t .0), subst (λ (x : State). left x < left s) (sym (said .0)) (t .1))

@@ -4,14 +4,14 @@ use mathlib.Core.Bool.{true≢false}
 use mathlib.Core.List.{List, map}
 use Prim.Native.Nat.{ℕ}
 use Rattle.kinds.specs.Answer.{numberOf}
-use Rattle.kinds.specs.declared.Answer.{Answer}
+use Rattle.kinds.specs.declared.Reply.{Reply}
 use Rattle.typed.specs.Typed.{TypedContract}
 use Rattle.typed.proofs.Turns.{Elements, map-is-whole, bytes-are-whole}
 use Rattle.typed.proofs.Pairs as pairs
 
 abbrev pub NeitherTwoNorThree : {X Y Z : Type 0} → Elements X Y Z → Type 0
-NeitherTwoNorThree {X} {Y} {Z} P = (xs : List X) (ys : List Z) (rounding range : ℕ) (qs ds : List ℕ) (r : Answer) → TypedContract (P .from) (P .to) (map (P .source-bits) xs) qs (map (P .entry-bits) ys) rounding range r ds
-    → (numberOf r ≡ 2 → ⊥) × (numberOf r ≡ 3 → ⊥)
+NeitherTwoNorThree {X} {Y} {Z} P = (xs : List X) (ys : List Z) (rounding range : ℕ) (qs ds : List ℕ) (r : Reply) → TypedContract (P .from) (P .to) (map (P .source-bits) xs) qs (map (P .entry-bits) ys) rounding range r ds
+    → (numberOf (r .answer) ≡ 2 → ⊥) × (numberOf (r .answer) ≡ 3 → ⊥)
 
 whole-elements : {X Y Z : Type 0} (P : Elements X Y Z) → NeitherTwoNorThree P
 whole-elements P xs ys rounding range qs ds r c = (

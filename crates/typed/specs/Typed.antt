@@ -4,7 +4,7 @@ use Prim.Native.Nat.{ℕ}
 use Rattle.bytes_le.specs.Bytes.{toLe}
 use Rattle.patterns.specs.Kind.{width}
 use Rattle.kinds.specs.Codes.{kindOf}
-use Rattle.kinds.specs.declared.Answer.{Answer}
+use Rattle.kinds.specs.declared.Reply.{Reply}
 use Rattle.cast_spec.specs.Element as E
 use Rattle.cast_spec.specs.Chunk.{Inputs, inputs}
 use Rattle.cast_spec.specs.Contract.{Contract}
@@ -27,8 +27,8 @@ typedInputs from to src dst es rounding range = inputs
 abbrev pub refusedNan : ℕ
 refusedNan = 0x7ff8_0000_0000_0000
 
--- ---- a typed call's contract is the chunk call's: the answer and every byte by an equation with the definitions, and demands 1 and 3.
+-- ---- a typed call's contract is the chunk call's: the answer, the counts and every byte by an equation with the definitions, demands 1 and 3, and what is counted.
 -- Free is which pattern a NaN in the destination has, of a stored element and of one that is left as it was: the language has one NaN, which stands
 -- here as the quiet one. A refused NaN's value is `refusedNan`.
-abbrev pub TypedContract : ℕ → ℕ → List ℕ → List ℕ → List E.Entry → ℕ → ℕ → Answer → List ℕ → Type 0
+abbrev pub TypedContract : ℕ → ℕ → List ℕ → List ℕ → List E.Entry → ℕ → ℕ → Reply → List ℕ → Type 0
 TypedContract from to src dst es rounding range r dst′ = Contract (typedInputs from to src dst es rounding range) r (bytesOf (width (kindOf to)) dst′)

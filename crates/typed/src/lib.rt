@@ -6,11 +6,13 @@ ghost use lib.ListN.{length};
 ghost use Rattle.typed_values.specs.Bits.{f64Bits, f32Bits, i64Bits, u8Bits, i32Bits, u8Of, i32Of, f32Of};
 ghost use Rattle.typed_entries.specs.Entries.{f64U8, f64I32, f32U8, f64F32, i64F32};
 ghost use Rattle.typed.specs.Typed.{TypedContract};
-ghost use Rattle.typed.specs.Loop.{outcomeFor, nextState, storedIn};
-use kinds::Answer;
+ghost use Rattle.kinds.specs.Tally.{Countable};
+ghost use Rattle.typed.specs.Loop.{outcomeFor, nextState, storedIn, TalliedBy};
 use kinds::Fit;
 use kinds::Format;
 use kinds::Lookup;
+use kinds::Reply;
+use kinds::Tally;
 use typed_entries::Entry;
 use typed_entries::EntryF32U8;
 use typed_entries::EntryF64I32;
@@ -32,16 +34,17 @@ pub type ThreeEntryI64F32 = [EntryI64F32; 3];
 // ---- f64 to u8
 
 // One element: stored, and the state at the next; or refused.
-fn step_f64_u8(src: &[f64], dst: &mut [u8], s: State, f: Lookup) -> State
-    requires { ⌜ (s .x < 2 ^ 64) × (s .at < length (now src)) × (s .at < length (now dst)) ⌝ }
-    ensures { λ r. ⌜ (r ≡ nextState (outcomeFor 9 4 s f) (map f64Bits (now (src .entry))) s) × (now (dst .exit) ≡ storedIn u8Of (outcomeFor 9 4 s f) (now (dst .entry)) (s .at)) ⌝ }
+fn step_f64_u8(src: &[f64], dst: &mut [u8], s: State, f: Lookup, tally: &mut Tally) -> State
+    requires { ⌜ (s .x < 2 ^ 64) × (s .at < length (now src)) × (s .at < length (now dst)) × Countable (now tally) ⌝ }
+    ensures { λ r. ⌜ (r ≡ nextState (outcomeFor 9 4 s f) (map f64Bits (now (src .entry))) s) × (now (dst .exit) ≡ storedIn u8Of (outcomeFor 9 4 s f) (now (dst .entry)) (s .at)) × TalliedBy (outcomeFor 9 4 s f) (now (tally .entry)) (now (tally .exit)) ⌝ }
 {
     let at = s.at;
     let rounding = s.rounding;
     let range = s.range;
     let x = floats::read_f64(s.x);
     let fit = steps::step_float_to_int(x, f, kinds::U8, rounding, range);
-    if let Fit::Pattern(pattern) = fit {
+    if let Fit::Pattern { pattern, fared } = fit {
+        kinds::count(tally, fared);
         dst[at] = typed_values::u8_of(pattern);
         return typed_states::state_f64(src, at + 1, rounding, range);
     }
@@ -61,15 +64,16 @@ pub fn convert_f64_to_u8(
     entries: &[EntryF64U8],
     rounding: u8,
     range: u8,
-) -> Answer
+) -> Reply
     ensures { λ r. ⌜ TypedContract 9 4 (map f64Bits (now (src .entry))) (map u8Bits (now (dst .entry))) (map f64U8 (now (entries .entry))) rounding range r (map u8Bits (now (dst .exit))) ⌝ }
 {
     let mut s = typed_states::start_f64(src, dst.len(), rounding, range);
+    let mut tally = kinds::no_tally();
     while s.more {
         let f = typed_entries::lookup_f64_u8(entries, s.x);
-        s = step_f64_u8(src, dst, s, f);
+        s = step_f64_u8(src, dst, s, f, &mut tally);
     }
-    typed_states::answer_of(s)
+    typed_states::reply_of(s, tally)
 }
 
 // The same with three entries by value, for callers that have no slice of them.
@@ -79,7 +83,7 @@ pub fn convert_f64_to_u8_with3(
     entries: ThreeEntryF64U8,
     rounding: u8,
     range: u8,
-) -> Answer
+) -> Reply
     ensures { λ r. ⌜ TypedContract 9 4 (map f64Bits (now (src .entry))) (map u8Bits (now (dst .entry))) (map f64U8 entries) rounding range r (map u8Bits (now (dst .exit))) ⌝ }
 {
     convert_f64_to_u8(src, dst, &entries, rounding, range)
@@ -88,16 +92,17 @@ pub fn convert_f64_to_u8_with3(
 // ---- f64 to i32
 
 // One element: stored, and the state at the next; or refused.
-fn step_f64_i32(src: &[f64], dst: &mut [i32], s: State, f: Lookup) -> State
-    requires { ⌜ (s .x < 2 ^ 64) × (s .at < length (now src)) × (s .at < length (now dst)) ⌝ }
-    ensures { λ r. ⌜ (r ≡ nextState (outcomeFor 9 2 s f) (map f64Bits (now (src .entry))) s) × (now (dst .exit) ≡ storedIn i32Of (outcomeFor 9 2 s f) (now (dst .entry)) (s .at)) ⌝ }
+fn step_f64_i32(src: &[f64], dst: &mut [i32], s: State, f: Lookup, tally: &mut Tally) -> State
+    requires { ⌜ (s .x < 2 ^ 64) × (s .at < length (now src)) × (s .at < length (now dst)) × Countable (now tally) ⌝ }
+    ensures { λ r. ⌜ (r ≡ nextState (outcomeFor 9 2 s f) (map f64Bits (now (src .entry))) s) × (now (dst .exit) ≡ storedIn i32Of (outcomeFor 9 2 s f) (now (dst .entry)) (s .at)) × TalliedBy (outcomeFor 9 2 s f) (now (tally .entry)) (now (tally .exit)) ⌝ }
 {
     let at = s.at;
     let rounding = s.rounding;
     let range = s.range;
     let x = floats::read_f64(s.x);
     let fit = steps::step_float_to_int(x, f, kinds::I32, rounding, range);
-    if let Fit::Pattern(pattern) = fit {
+    if let Fit::Pattern { pattern, fared } = fit {
+        kinds::count(tally, fared);
         dst[at] = typed_values::i32_of(pattern);
         return typed_states::state_f64(src, at + 1, rounding, range);
     }
@@ -117,15 +122,16 @@ pub fn convert_f64_to_i32(
     entries: &[EntryF64I32],
     rounding: u8,
     range: u8,
-) -> Answer
+) -> Reply
     ensures { λ r. ⌜ TypedContract 9 2 (map f64Bits (now (src .entry))) (map i32Bits (now (dst .entry))) (map f64I32 (now (entries .entry))) rounding range r (map i32Bits (now (dst .exit))) ⌝ }
 {
     let mut s = typed_states::start_f64(src, dst.len(), rounding, range);
+    let mut tally = kinds::no_tally();
     while s.more {
         let f = typed_entries::lookup_f64_i32(entries, s.x);
-        s = step_f64_i32(src, dst, s, f);
+        s = step_f64_i32(src, dst, s, f, &mut tally);
     }
-    typed_states::answer_of(s)
+    typed_states::reply_of(s, tally)
 }
 
 // The same with three entries by value, for callers that have no slice of them.
@@ -135,7 +141,7 @@ pub fn convert_f64_to_i32_with3(
     entries: ThreeEntryF64I32,
     rounding: u8,
     range: u8,
-) -> Answer
+) -> Reply
     ensures { λ r. ⌜ TypedContract 9 2 (map f64Bits (now (src .entry))) (map i32Bits (now (dst .entry))) (map f64I32 entries) rounding range r (map i32Bits (now (dst .exit))) ⌝ }
 {
     convert_f64_to_i32(src, dst, &entries, rounding, range)
@@ -144,16 +150,17 @@ pub fn convert_f64_to_i32_with3(
 // ---- f32 to u8
 
 // One element: stored, and the state at the next; or refused.
-fn step_f32_u8(src: &[f32], dst: &mut [u8], s: State, f: Lookup) -> State
-    requires { ⌜ (s .x < 2 ^ 32) × (s .at < length (now src)) × (s .at < length (now dst)) ⌝ }
-    ensures { λ r. ⌜ (r ≡ nextState (outcomeFor 8 4 s f) (map f32Bits (now (src .entry))) s) × (now (dst .exit) ≡ storedIn u8Of (outcomeFor 8 4 s f) (now (dst .entry)) (s .at)) ⌝ }
+fn step_f32_u8(src: &[f32], dst: &mut [u8], s: State, f: Lookup, tally: &mut Tally) -> State
+    requires { ⌜ (s .x < 2 ^ 32) × (s .at < length (now src)) × (s .at < length (now dst)) × Countable (now tally) ⌝ }
+    ensures { λ r. ⌜ (r ≡ nextState (outcomeFor 8 4 s f) (map f32Bits (now (src .entry))) s) × (now (dst .exit) ≡ storedIn u8Of (outcomeFor 8 4 s f) (now (dst .entry)) (s .at)) × TalliedBy (outcomeFor 8 4 s f) (now (tally .entry)) (now (tally .exit)) ⌝ }
 {
     let at = s.at;
     let rounding = s.rounding;
     let range = s.range;
     let x = floats::read_f32(s.x as u32);
     let fit = steps::step_float_to_int(x, f, kinds::U8, rounding, range);
-    if let Fit::Pattern(pattern) = fit {
+    if let Fit::Pattern { pattern, fared } = fit {
+        kinds::count(tally, fared);
         dst[at] = typed_values::u8_of(pattern);
         return typed_states::state_f32(src, at + 1, rounding, range);
     }
@@ -173,15 +180,16 @@ pub fn convert_f32_to_u8(
     entries: &[EntryF32U8],
     rounding: u8,
     range: u8,
-) -> Answer
+) -> Reply
     ensures { λ r. ⌜ TypedContract 8 4 (map f32Bits (now (src .entry))) (map u8Bits (now (dst .entry))) (map f32U8 (now (entries .entry))) rounding range r (map u8Bits (now (dst .exit))) ⌝ }
 {
     let mut s = typed_states::start_f32(src, dst.len(), rounding, range);
+    let mut tally = kinds::no_tally();
     while s.more {
         let f = typed_entries::lookup_f32_u8(entries, s.x);
-        s = step_f32_u8(src, dst, s, f);
+        s = step_f32_u8(src, dst, s, f, &mut tally);
     }
-    typed_states::answer_of(s)
+    typed_states::reply_of(s, tally)
 }
 
 // The same with three entries by value, for callers that have no slice of them.
@@ -191,7 +199,7 @@ pub fn convert_f32_to_u8_with3(
     entries: ThreeEntryF32U8,
     rounding: u8,
     range: u8,
-) -> Answer
+) -> Reply
     ensures { λ r. ⌜ TypedContract 8 4 (map f32Bits (now (src .entry))) (map u8Bits (now (dst .entry))) (map f32U8 entries) rounding range r (map u8Bits (now (dst .exit))) ⌝ }
 {
     convert_f32_to_u8(src, dst, &entries, rounding, range)
@@ -200,16 +208,17 @@ pub fn convert_f32_to_u8_with3(
 // ---- f64 to f32
 
 // One element: stored, and the state at the next; or refused.
-fn step_f64_f32(src: &[f64], dst: &mut [f32], s: State, f: Lookup) -> State
-    requires { ⌜ (s .x < 2 ^ 64) × (s .at < length (now src)) × (s .at < length (now dst)) ⌝ }
-    ensures { λ r. ⌜ (r ≡ nextState (outcomeFor 9 8 s f) (map f64Bits (now (src .entry))) s) × (now (dst .exit) ≡ storedIn f32Of (outcomeFor 9 8 s f) (now (dst .entry)) (s .at)) ⌝ }
+fn step_f64_f32(src: &[f64], dst: &mut [f32], s: State, f: Lookup, tally: &mut Tally) -> State
+    requires { ⌜ (s .x < 2 ^ 64) × (s .at < length (now src)) × (s .at < length (now dst)) × Countable (now tally) ⌝ }
+    ensures { λ r. ⌜ (r ≡ nextState (outcomeFor 9 8 s f) (map f64Bits (now (src .entry))) s) × (now (dst .exit) ≡ storedIn f32Of (outcomeFor 9 8 s f) (now (dst .entry)) (s .at)) × TalliedBy (outcomeFor 9 8 s f) (now (tally .entry)) (now (tally .exit)) ⌝ }
 {
     let at = s.at;
     let rounding = s.rounding;
     let range = s.range;
     let x = floats::read_f64(s.x);
     let fit = steps::step_float_to_float(x, f, kinds::F32, rounding, range);
-    if let Fit::Pattern(pattern) = fit {
+    if let Fit::Pattern { pattern, fared } = fit {
+        kinds::count(tally, fared);
         dst[at] = typed_values::f32_of(pattern);
         return typed_states::state_f64(src, at + 1, rounding, range);
     }
@@ -229,15 +238,16 @@ pub fn convert_f64_to_f32(
     entries: &[Entry],
     rounding: u8,
     range: u8,
-) -> Answer
+) -> Reply
     ensures { λ r. ⌜ TypedContract 9 8 (map f64Bits (now (src .entry))) (map f32Bits (now (dst .entry))) (map f64F32 (now (entries .entry))) rounding range r (map f32Bits (now (dst .exit))) ⌝ }
 {
     let mut s = typed_states::start_f64(src, dst.len(), rounding, range);
+    let mut tally = kinds::no_tally();
     while s.more {
         let f = typed_entries::lookup_f64_f32(entries, s.x);
-        s = step_f64_f32(src, dst, s, f);
+        s = step_f64_f32(src, dst, s, f, &mut tally);
     }
-    typed_states::answer_of(s)
+    typed_states::reply_of(s, tally)
 }
 
 // The same with three entries by value, for callers that have no slice of them.
@@ -247,7 +257,7 @@ pub fn convert_f64_to_f32_with3(
     entries: ThreeEntry,
     rounding: u8,
     range: u8,
-) -> Answer
+) -> Reply
     ensures { λ r. ⌜ TypedContract 9 8 (map f64Bits (now (src .entry))) (map f32Bits (now (dst .entry))) (map f64F32 entries) rounding range r (map f32Bits (now (dst .exit))) ⌝ }
 {
     convert_f64_to_f32(src, dst, &entries, rounding, range)
@@ -256,16 +266,17 @@ pub fn convert_f64_to_f32_with3(
 // ---- i64 to f32
 
 // One element: stored, and the state at the next; or refused.
-fn step_i64_f32(src: &[i64], dst: &mut [f32], s: State, f: Lookup) -> State
-    requires { ⌜ (s .x < 2 ^ 64) × (s .at < length (now src)) × (s .at < length (now dst)) ⌝ }
-    ensures { λ r. ⌜ (r ≡ nextState (outcomeFor 3 8 s f) (map i64Bits (now (src .entry))) s) × (now (dst .exit) ≡ storedIn f32Of (outcomeFor 3 8 s f) (now (dst .entry)) (s .at)) ⌝ }
+fn step_i64_f32(src: &[i64], dst: &mut [f32], s: State, f: Lookup, tally: &mut Tally) -> State
+    requires { ⌜ (s .x < 2 ^ 64) × (s .at < length (now src)) × (s .at < length (now dst)) × Countable (now tally) ⌝ }
+    ensures { λ r. ⌜ (r ≡ nextState (outcomeFor 3 8 s f) (map i64Bits (now (src .entry))) s) × (now (dst .exit) ≡ storedIn f32Of (outcomeFor 3 8 s f) (now (dst .entry)) (s .at)) × TalliedBy (outcomeFor 3 8 s f) (now (tally .entry)) (now (tally .exit)) ⌝ }
 {
     let at = s.at;
     let rounding = s.rounding;
     let range = s.range;
     let x = integers::int_magnitude(s.x, true, 64);
     let fit = steps::step_int_to_float(x, f, kinds::F32, rounding, range);
-    if let Fit::Pattern(pattern) = fit {
+    if let Fit::Pattern { pattern, fared } = fit {
+        kinds::count(tally, fared);
         dst[at] = typed_values::f32_of(pattern);
         return typed_states::state_i64(src, at + 1, rounding, range);
     }
@@ -285,15 +296,16 @@ pub fn convert_i64_to_f32(
     entries: &[EntryI64F32],
     rounding: u8,
     range: u8,
-) -> Answer
+) -> Reply
     ensures { λ r. ⌜ TypedContract 3 8 (map i64Bits (now (src .entry))) (map f32Bits (now (dst .entry))) (map i64F32 (now (entries .entry))) rounding range r (map f32Bits (now (dst .exit))) ⌝ }
 {
     let mut s = typed_states::start_i64(src, dst.len(), rounding, range);
+    let mut tally = kinds::no_tally();
     while s.more {
         let f = typed_entries::lookup_i64_f32(entries, s.x);
-        s = step_i64_f32(src, dst, s, f);
+        s = step_i64_f32(src, dst, s, f, &mut tally);
     }
-    typed_states::answer_of(s)
+    typed_states::reply_of(s, tally)
 }
 
 // The same with three entries by value, for callers that have no slice of them.
@@ -303,7 +315,7 @@ pub fn convert_i64_to_f32_with3(
     entries: ThreeEntryI64F32,
     rounding: u8,
     range: u8,
-) -> Answer
+) -> Reply
     ensures { λ r. ⌜ TypedContract 3 8 (map i64Bits (now (src .entry))) (map f32Bits (now (dst .entry))) (map i64F32 entries) rounding range r (map f32Bits (now (dst .exit))) ⌝ }
 {
     convert_i64_to_f32(src, dst, &entries, rounding, range)

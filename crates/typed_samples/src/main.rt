@@ -1,6 +1,7 @@
-// Typed samples through each typed call. Each line is the pair, the rounding and range codes, the answer's number, the position of a refusal, and the patterns
-// of the destination's elements.
-use kinds::Answer;
+// Typed samples through each typed call. Each line is the pair, the rounding and range codes, the answer's number, the position of a refusal, the five counts, and
+// the patterns of the destination's elements.
+use kinds::Counts;
+use kinds::Reply;
 use libc::STDOUT_FILENO;
 use typed_entries::Entry;
 use typed_entries::EntryF32U8;
@@ -14,7 +15,24 @@ fn wide(x: u8) -> u64 {
 
 // ---- output
 
-fn print_answer(rounding: u8, range: u8, a: Answer) {
+fn print_count(n: usize) {
+    io::write_all(STDOUT_FILENO, b" ");
+    io::print_decimal(STDOUT_FILENO, n as u64);
+}
+
+// Mapped, exact, rounded, clamped, wrapped.
+fn print_counts(c: Counts) {
+    io::write_all(STDOUT_FILENO, b",");
+    print_count(c.mapped);
+    print_count(c.exact);
+    print_count(c.rounded);
+    print_count(c.clamped);
+    print_count(c.wrapped);
+}
+
+fn print_reply(rounding: u8, range: u8, r: Reply) {
+    let a = r.answer;
+    let c = r.counts;
     io::write_all(STDOUT_FILENO, b" ");
     io::print_decimal(STDOUT_FILENO, wide(rounding));
     io::write_all(STDOUT_FILENO, b" ");
@@ -25,6 +43,7 @@ fn print_answer(rounding: u8, range: u8, a: Answer) {
         io::write_all(STDOUT_FILENO, b" at ");
         io::print_decimal(STDOUT_FILENO, kinds::position(a) as u64);
     }
+    print_counts(c);
     io::write_all(STDOUT_FILENO, b":");
 }
 
@@ -64,8 +83,8 @@ fn map_f64_u8() -> [EntryF64U8; 3] {
 fn f64_u8(src: [f64; 4], rounding: u8, range: u8) {
     io::write_all(STDOUT_FILENO, b"f64 u8");
     let mut dst = [0xaau8; 4];
-    let a = typed::convert_f64_to_u8_with3(&src, &mut dst, map_f64_u8(), rounding, range);
-    print_answer(rounding, range, a);
+    let r = typed::convert_f64_to_u8_with3(&src, &mut dst, map_f64_u8(), rounding, range);
+    print_reply(rounding, range, r);
     print_four(wide(dst[0]), wide(dst[1]), wide(dst[2]), wide(dst[3]), 2);
 }
 
@@ -89,8 +108,8 @@ fn map_f64_i32() -> [EntryF64I32; 3] {
 fn f64_i32(src: [f64; 4], rounding: u8, range: u8) {
     io::write_all(STDOUT_FILENO, b"f64 i32");
     let mut dst = [-1i32; 4];
-    let a = typed::convert_f64_to_i32_with3(&src, &mut dst, map_f64_i32(), rounding, range);
-    print_answer(rounding, range, a);
+    let r = typed::convert_f64_to_i32_with3(&src, &mut dst, map_f64_i32(), rounding, range);
+    print_reply(rounding, range, r);
     print_four(
         typed_values::bits_i32(dst[0]),
         typed_values::bits_i32(dst[1]),
@@ -120,8 +139,8 @@ fn map_f32_u8() -> [EntryF32U8; 3] {
 fn f32_u8(src: [f32; 4], rounding: u8, range: u8) {
     io::write_all(STDOUT_FILENO, b"f32 u8");
     let mut dst = [0xaau8; 4];
-    let a = typed::convert_f32_to_u8_with3(&src, &mut dst, map_f32_u8(), rounding, range);
-    print_answer(rounding, range, a);
+    let r = typed::convert_f32_to_u8_with3(&src, &mut dst, map_f32_u8(), rounding, range);
+    print_reply(rounding, range, r);
     print_four(wide(dst[0]), wide(dst[1]), wide(dst[2]), wide(dst[3]), 2);
 }
 
@@ -145,8 +164,8 @@ fn map_f64_f32() -> [Entry; 3] {
 fn f64_f32(src: [f64; 4], rounding: u8, range: u8) {
     io::write_all(STDOUT_FILENO, b"f64 f32");
     let mut dst = [-1.5f32; 4];
-    let a = typed::convert_f64_to_f32_with3(&src, &mut dst, map_f64_f32(), rounding, range);
-    print_answer(rounding, range, a);
+    let r = typed::convert_f64_to_f32_with3(&src, &mut dst, map_f64_f32(), rounding, range);
+    print_reply(rounding, range, r);
     print_four(
         typed_values::bits_f32(dst[0]),
         typed_values::bits_f32(dst[1]),
@@ -176,8 +195,8 @@ fn map_i64_f32() -> [EntryI64F32; 3] {
 fn i64_f32(src: [i64; 4], rounding: u8, range: u8) {
     io::write_all(STDOUT_FILENO, b"i64 f32");
     let mut dst = [-1.5f32; 4];
-    let a = typed::convert_i64_to_f32_with3(&src, &mut dst, map_i64_f32(), rounding, range);
-    print_answer(rounding, range, a);
+    let r = typed::convert_i64_to_f32_with3(&src, &mut dst, map_i64_f32(), rounding, range);
+    print_reply(rounding, range, r);
     print_four(
         typed_values::bits_f32(dst[0]),
         typed_values::bits_f32(dst[1]),

@@ -3,11 +3,14 @@ ghost use mathlib.Core.Path.{_≡_};
 ghost use mathlib.Core.List.{map};
 ghost use Rattle.cast_spec.specs.Chunk.{answerNext};
 ghost use Rattle.typed_values.specs.Bits.{f64Bits, f32Bits, i64Bits};
+ghost use Rattle.kinds.specs.Counts.{countsIn};
 ghost use Rattle.typed_states.specs.States.{checkOf, stateAt, startOf, going, stopped};
 use grid::RoundingMode;
 use kinds::Answer;
 use kinds::OutOfRangeMode;
 use kinds::Outcome;
+use kinds::Reply;
+use kinds::Tally;
 
 // What the loop of a typed call carries: whether an element is to be converted, its position and its pattern, the answer once the loop ends,
 // and what the call's codes say.
@@ -78,11 +81,15 @@ pub fn refuse(s: State, o: Outcome) -> State
     stop(s.at, element::refusal(s.at, o), rounding, range)
 }
 
-// The answer of a loop that has ended.
-pub fn answer_of(s: State) -> Answer
-    ensures { λ r. ⌜ r ≡ s .answer ⌝ }
+// What a call returns whose loop has ended in this state, with this tally.
+pub fn reply_of(s: State, tally: Tally) -> Reply
+    ensures { λ r. ⌜ (r .answer ≡ s .answer) × (r .counts ≡ countsIn tally) ⌝ }
 {
-    s.answer
+    let answer = s.answer;
+    Reply {
+        answer: answer,
+        counts: kinds::counts_of(tally),
+    }
 }
 
 // ---- sources

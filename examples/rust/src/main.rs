@@ -1,11 +1,11 @@
 //! Converts 2.5 and 300 from f64 to u8: refused, clamped, by a map, and by the typed call.
-use polskrea::{convert, convert_f64_to_u8, CastError, Entry, Kind, Map, OutOfRangeMode, RoundingMode};
+use polskrea::{convert, convert_f64_to_u8, Counts, Entry, Kind, Map, OutOfRangeMode, Refused, RoundingMode};
 
-/// Prints what came of a call, and the destination.
-fn show(title: &str, answer: Result<(), CastError>, dst: &[u8]) {
+/// Prints what came of a call and the destination, and how the converted elements fared.
+fn show(title: &str, answer: Result<Counts, Refused>, dst: &[u8]) {
     match answer {
-        Ok(()) => println!("{title}: ok; {dst:?}"),
-        Err(error) => println!("{title}: refused {}, {error}; {dst:?}", error.number()),
+        Ok(counts) => println!("{title}: ok; {dst:?}\n  {counts}"),
+        Err(Refused { error, counts }) => println!("{title}: refused {}, {error}; {dst:?}\n  {counts}", error.number()),
     }
 }
 

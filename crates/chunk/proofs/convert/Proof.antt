@@ -5,8 +5,9 @@ use Prim.Native.Nat.{_/_, _%_, _<_}
 use lib.Dec.{eqb}
 use lib.ListN.{length}
 use denote.Ref.{now}
-use Rattle.kinds.specs.declared.Answer.{Answer}
+use Rattle.kinds.specs.Counts.{unconverted}
 use Rattle.kinds.specs.declared.Answer.the-variants as A
+use Rattle.kinds.specs.declared.Reply.{Reply}
 use Rattle.cast_spec.specs.Chunk.{Inputs, inputs, codesListed, mapWhole, bytesWhole, sw, dw}
 use Rattle.cast_spec.specs.Contract.{Contract}
 use Rattle.chunk_element.specs.Settings.{settingsFor}
@@ -72,7 +73,9 @@ same-counts : (c : tie.Else4) → let u = c .before .before .before .before .bef
 same-counts c = c .if4 .left
 
 returns : tie.Need-returns
-returns c = unknown (given (c .before)) (sym (c .before .codes-listed .ensures) ∙ not-true (c .before .codes-listed .result) (c .if1 .taken))
+returns c =
+    let x = c .before in
+    subst (λ (r : Reply). Contract (given (x .before)) r (now (start (x .before) .args .dst))) (sym (c .refused .ensures)) (unknown (given (x .before)) (sym (x .before .codes-listed .ensures) ∙ not-true (x .before .codes-listed .result) (x .if1 .taken)))
 
 settings-of-requires : tie.Need-settings-of-requires
 settings-of-requires c κs = codes c
@@ -81,13 +84,20 @@ whole-map-requires : tie.Need-whole-map-requires
 whole-map-requires c κs = widths c
 
 returns-2 : tie.Need-returns-2
-returns-2 c = let e = c .before .before .before in broken-map (given (e .before)) (listed e) (sym (map-told (c .before)) ∙ not-true (c .before .whole-map .result) (c .if2 .taken))
+returns-2 c =
+    let x = c .before in
+    let e = x .before .before .before in
+    subst (λ (r : Reply). Contract (given (e .before)) r (now (start (e .before) .args .dst))) (sym (c .refused2 .ensures)) (broken-map (given (e .before)) (listed e) (sym (map-told (x .before)) ∙ not-true (x .before .whole-map .result) (x .if2 .taken)))
 
 whole-elements-requires : tie.Need-whole-elements-requires
 whole-elements-requires c κs = widths (c .before .before)
 
 returns-3 : tie.Need-returns-3
-returns-3 c = let m = c .before .before in let e = m .before .before .before in broken-element (given (e .before)) (listed e) (map-whole m) (sym (bytes-told (c .before)) ∙ not-true (c .before .whole-elements .result) (c .if3 .taken))
+returns-3 c =
+    let x = c .before in
+    let m = x .before .before in
+    let e = m .before .before .before in
+    subst (λ (r : Reply). Contract (given (e .before)) r (now (start (e .before) .args .dst))) (sym (c .refused3 .ensures)) (broken-element (given (e .before)) (listed e) (map-whole m) (sym (bytes-told (x .before)) ∙ not-true (x .before .whole-elements .result) (x .if3 .taken)))
 
 div-n : tie.Need-div-n
 div-n c = widths (c .before .before .before .before .before) .0
@@ -97,12 +107,13 @@ div-m c = widths (c .before .before .before .before .before .before) .1
 
 returns-4 : tie.Need-returns-4
 returns-4 c =
-    let b = c .before .before .before in
+    let x = c .before in
+    let b = x .before .before .before in
     let m = b .before .before in
     let e = m .before .before .before in
-    let k = counts (c .before) in
-    subst (λ (r : Answer). Contract (given (e .before)) r (now (start (e .before) .args .dst))) (ap₂ A.LengthMismatch (sym (k .0)) (sym (k .1)))
-    (mismatch (given (e .before)) (listed e) (map-whole m) (bytes-whole b) (λ d. c .if4 .taken (k .0 ∙ d ∙ sym (k .1))))
+    let k = counts (x .before) in
+    subst (λ (r : Reply). Contract (given (e .before)) r (now (start (e .before) .args .dst))) (ap unconverted (ap₂ A.LengthMismatch (sym (k .0)) (sym (k .1))) ∙ sym (c .refused4 .ensures))
+    (mismatch (given (e .before)) (listed e) (map-whole m) (bytes-whole b) (λ d. x .if4 .taken (k .0 ∙ d ∙ sym (k .1))))
 
 run-requires : tie.Need-run-requires
 run-requires c κs =
@@ -112,7 +123,7 @@ run-requires c κs =
     let e = u .before in
     let a = start (e .before) .args in
     let k = counts (c .before .before) in
-    subst (λ (s : Settings). RunReady s (now (a .keys)) (now (a .targets)) (now (a .src)) (now (a .dst)) 0 (length (now (a .src)) / s .sw)) (sym (is-settings u))
+    subst (λ (s : Settings). RunReady s (now (a .keys)) (now (a .targets)) (now (a .src)) (now (a .dst)) (length (now (a .src)) / s .sw)) (sym (is-settings u))
     (run-asks (given (e .before)) (listed e) (map-whole m) (bytes-whole b) (sym (k .0) ∙ same-counts (c .before) ∙ k .1))
 
 returns-5 : tie.Need-returns-5
@@ -125,7 +136,7 @@ returns-5 c =
     let a = start (e .before) .args in
     let k = counts (x .before .before .before) in
     run-whole (given (e .before)) (listed e) (map-whole m) (bytes-whole b) (sym (k .0) ∙ same-counts (x .before .before) ∙ k .1) (x .run .result) (x .run .last .1 .0)
-    (subst (λ (s : Settings). Ran (settingsFor s (now (a .keys)) (now (a .targets))) (s .sw) (s .dw) (now (a .src)) (now (a .dst)) 0 (length (now (a .src)) / s .sw) (x .run .result) (x .run .last .1 .0)) (is-settings u) (x .run .ensures))
+    (subst (λ (s : Settings). Ran (settingsFor s (now (a .keys)) (now (a .targets))) (s .sw) (s .dw) (now (a .src)) (now (a .dst)) (length (now (a .src)) / s .sw) (x .run .result) (x .run .last .1 .0)) (is-settings u) (x .run .ensures))
 
 pub convert-spec : {M : Type 1} → statement M
-convert-spec = tie.close (tie.spec (λ c κs. search needs) returns settings-of-requires whole-map-requires returns-2 whole-elements-requires returns-3 div-n div-m returns-4 run-requires (λ c. search needs) returns-5)
+convert-spec = tie.close (tie.spec (λ c κs. search needs) (λ c κs. search needs) returns settings-of-requires whole-map-requires (λ c κs. search needs) returns-2 whole-elements-requires (λ c κs. search needs) returns-3 div-n div-m (λ c κs. search needs) returns-4 run-requires (λ c. search needs) returns-5)

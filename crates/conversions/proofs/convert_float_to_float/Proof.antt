@@ -1,8 +1,10 @@
 -- `conversions::convert_float_to_float` meets its contract: the row's narrowing, or the f64 of the float.
 use mathlib.Core.Path.{sym, ap, _∙_}
+use Prim.Native.Nat.{ℕ}
 use borrow.Author.Needs.{needs}
 use Rattle.kinds.specs.Row.{floatOf}
 use Rattle.kinds.specs.declared.FloatFormat.{FloatFormat}
+use Rattle.kinds.specs.declared.Fared.the-variants.{Exact}
 use Rattle.kinds.specs.declared.Fit.the-variants.{Pattern}
 use Rattle.narrowing.specs.Fit.{fitFloat}
 use Rattle.kinds.proofs.FloatRows.{single, double}
@@ -17,7 +19,7 @@ returns-2 : tie.Need-returns-2
 returns-2 c =
     let t = c .before .before in
     let a = t .args in
-    ap Pattern (c .write-f64 .ensures) ∙ to-f64 (a .x) (t .pre .0) (a .mode) (a .range) ∙ ap (λ (f : FloatFormat). fitFloat (floatOf f) (a .mode) (a .range) (a .x)) (sym (double (a .to) (t .pre .1) (c .before .match .rest .1)))
+    ap (λ (b : ℕ). Pattern b Exact) (c .write-f64 .ensures) ∙ to-f64 (a .x) (t .pre .0) (a .mode) (a .range) ∙ ap (λ (f : FloatFormat). fitFloat (floatOf f) (a .mode) (a .range) (a .x)) (sym (double (a .to) (t .pre .1) (c .before .match .rest .1)))
 
 pub convert-float-to-float-spec : {M : Type 1} → statement M
 convert-float-to-float-spec = tie.close (tie.spec (λ c κs. search needs) (λ c κs. search needs) returns returns-2)

@@ -10,6 +10,7 @@ use borrow.Author.Needs.{needs}
 use Rattle.grid.specs.Grid.{float}
 use Rattle.grid.specs.Round.{pickMag, ruleFor, signed}
 use Rattle.grid.specs.declared.RoundingMode.the-variants.{NearestEven}
+use Rattle.grid.specs.declared.Rounded.{Rounded}
 use Rattle.patterns.specs.Kind.{f64}
 use Rattle.patterns.specs.Pattern.{magBits, patternOf, withSign}
 use Rattle.patterns.proofs.Floats.{abs-signed}
@@ -30,20 +31,24 @@ signed-pattern : (s : Bool) (n : ℕ) → withSign 64 s (magBits 53 0 n) ≡ pat
 unfolding patternOf
 signed-pattern s n = ap (λ (z : ℕ). withSign 64 s (magBits 53 0 z)) (sym (abs-signed s n))
 
-below-sign : (c : tie.After-int-to-f64-magnitude) → c .int-to-f64-magnitude .result < 2 ^ 63
+bits-are : (c : tie.After-int-to-f64-magnitude) → c .int-to-f64-magnitude .result .bits ≡ magBits 53 0 (pickMag (float 53 0) (ruleFor (c .before .args .negative) NearestEven) (c .before .args .magnitude) * 2 ^ 1074)
+bits-are c = ap (λ (x : Rounded). x .bits) (c .int-to-f64-magnitude .ensures)
+
+below-sign : (c : tie.After-int-to-f64-magnitude) → c .int-to-f64-magnitude .result .bits < 2 ^ 63
 below-sign c =
     let a = c .before .args in
-    omega (arith, c .int-to-f64-magnitude .ensures, pick-bits-lt 53 (record { two = lit≤ tt; at-most-53 = lit≤ tt }) (ruleFor (a .negative) NearestEven) (a .magnitude) (omega arith))
+    omega (arith, bits-are c, pick-bits-lt 53 (record { two = lit≤ tt; at-most-53 = lit≤ tt }) (ruleFor (a .negative) NearestEven) (a .magnitude) (omega arith))
 
 add-result : tie.Need-add-result
-add-result c = record { fits = sum-fits (c .before .args .negative) (c .int-to-f64-magnitude .result) (below-sign c) }
+add-result c = let d = c .before in record { fits = sum-fits (d .before .args .negative) (d .int-to-f64-magnitude .result .bits) (below-sign d) }
 
 returns : tie.Need-returns
 returns c =
-    let a = c .before .args in
+    let d = c .before in
+    let a = d .before .args in
     let n = pickMag (float 53 0) (ruleFor (a .negative) NearestEven) (a .magnitude) * 2 ^ 1074 in
-    over-sign (a .negative) (c .int-to-f64-magnitude .result)
-    ∙ ap (withSign 64 (a .negative)) (c .int-to-f64-magnitude .ensures)
+    over-sign (a .negative) (d .int-to-f64-magnitude .result .bits)
+    ∙ ap (withSign 64 (a .negative)) (bits-are d)
     ∙ signed-pattern (a .negative) n
     ∙ ap (λ (z : ℤ). patternOf f64 (a .negative) z) (sym (pick-scale-signed 53 0 (lit≤ tt) NearestEven (a .negative) (a .magnitude) 1074 (lit≤ tt)))
 

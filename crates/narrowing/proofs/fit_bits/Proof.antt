@@ -1,5 +1,5 @@
 -- `narrowing::fit_bits` meets its contract: below an infinity's bits, and by the range choice from there on.
-use mathlib.Core.Path.{_≡_, sym, ap, subst, _∙_}
+use mathlib.Core.Path.{_≡_, sym, ap, ap₂, subst, _∙_}
 use mathlib.Core.Bool.{Bool, cond}
 use mathlib.Core.Logic.{⊎-elim}
 use Prim.Native.Nat.{ℕ, _+_, _-_, _^_, _≤_, _<_}
@@ -8,6 +8,7 @@ use borrow.Author.Needs.{needs}
 use Rattle.patterns.specs.Float.{infBits}
 use Rattle.patterns.specs.Pattern.{withSign}
 use Rattle.patterns.proofs.Floats.{inf-lt}
+use Rattle.kinds.specs.declared.Fared.the-variants.{Clamped}
 use Rattle.kinds.specs.declared.OutOfRangeMode.the-variants.{Clamp}
 use Rattle.kinds.specs.declared.Fit.the-variants.{Pattern}
 use Rattle.floats.proofs.Signs.{signed-sum, signed-fits}
@@ -21,8 +22,8 @@ use Rattle.narrowing.proofs.fit_bits.Tie as tie
 below-fits : (p w : ℕ) → FormatBits p w → (neg : Bool) (s x : ℕ) → s ≡ cond neg (2 ^ (w + p - 1)) 0 → x ≤ infBits p w → s + x < 2 ^ 64
 below-fits p w f neg s x e h = signed-fits (w + p) neg s x e (omega (arith, f .two)) (omega (arith, f .fewer, f .at-most-11)) (omega (arith, inf-lt p w 0 (f .two) (f .positive)))
 
-add-t11 : tie.Need-add-t11
-add-t11 c =
+add-t12 : tie.Need-add-t12
+add-t12 c =
     let t = c .before .before .before in
     let s = c .before .before .sign-bit in
     let i = c .before .infinity-bits in
@@ -30,12 +31,13 @@ add-t11 c =
 
 returns : tie.Need-returns
 returns c =
-    let a = c .before .before .before .args in
-    let s = c .before .before .sign-bit in
-    ap Pattern (signed-sum (a .w + a .p) (a .negative) (s .result) (a .bits) (s .ensures)) ∙ bits-fit (a .p) (a .w) (a .negative) (a .range) (a .bits) (subst (λ (z : ℕ). a .bits < z) (c .before .infinity-bits .ensures) (c .if1 .taken))
+    let a = c .before .before .before .before .args in
+    let s = c .before .before .before .sign-bit in
+    ap₂ Pattern (signed-sum (a .w + a .p) (a .negative) (s .result) (a .bits) (s .ensures)) (c .by-pick .ensures)
+    ∙ bits-fit (a .p) (a .w) (a .negative) (a .range) (a .bits) (a .ternary) (subst (λ (z : ℕ). a .bits < z) (c .before .before .infinity-bits .ensures) (c .before .if1 .taken))
 
-add-t12 : tie.Need-add-t12
-add-t12 c =
+add-t14 : tie.Need-add-t14
+add-t14 c =
     let t = c .before .before .before .before .before in
     let s = c .before .before .before .before .sign-bit in
     let i = c .before .before .before .infinity-bits in
@@ -46,9 +48,9 @@ returns-2 c =
     let a = c .before .before .before .before .before .args in
     let s = c .before .before .before .before .sign-bit in
     let i = c .before .before .before .infinity-bits in
-    ap Pattern (signed-sum (a .w + a .p) (a .negative) (s .result) (i .result) (s .ensures) ∙ ap (withSign (a .w + a .p) (a .negative)) (i .ensures))
+    ap (λ (z : ℕ). Pattern z Clamped) (signed-sum (a .w + a .p) (a .negative) (s .result) (i .result) (s .ensures) ∙ ap (withSign (a .w + a .p) (a .negative)) (i .ensures))
     ∙ ap (overrunFit (a .p) (a .w) (a .negative)) (sym (c .enum-told .given .1))
-    ∙ overrun-fit (a .p) (a .w) (a .negative) (a .range) (a .bits) (subst (λ (z : ℕ). z ≤ a .bits) (i .ensures) (c .before .before .if1 .left))
+    ∙ overrun-fit (a .p) (a .w) (a .negative) (a .range) (a .bits) (a .ternary) (subst (λ (z : ℕ). z ≤ a .bits) (i .ensures) (c .before .before .if1 .left))
 
 not-clamp : (c : tie.At-match-keys2) → c .before .before .before .before .args .range ≡ Clamp → ⊥
 not-clamp c e = ⊎-elim (λ (a : _≡_ {A = ℕ} 1 0). omega arith) (λ (a : _≡_ {A = ℕ} 1 2). omega arith) (rw e at (c .match .keys2))
@@ -57,7 +59,7 @@ returns-3 : tie.Need-returns-3
 returns-3 c =
     let a = c .before .before .before .before .args in
     let i = c .before .before .infinity-bits in
-    refused-fit (a .p) (a .w) (a .negative) (a .range) (not-clamp c) ∙ overrun-fit (a .p) (a .w) (a .negative) (a .range) (a .bits) (subst (λ (z : ℕ). z ≤ a .bits) (i .ensures) (c .before .if1 .left))
+    refused-fit (a .p) (a .w) (a .negative) (a .range) (not-clamp c) ∙ overrun-fit (a .p) (a .w) (a .negative) (a .range) (a .bits) (a .ternary) (subst (λ (z : ℕ). z ≤ a .bits) (i .ensures) (c .before .if1 .left))
 
 pub fit-bits-spec : {M : Type 1} → statement M
-fit-bits-spec = tie.close (tie.spec (λ c. search needs) (λ c. search needs) (λ c κs. search needs) (λ c κs. search needs) add-t11 returns (λ c. search needs) add-t12 returns-2 returns-3)
+fit-bits-spec = tie.close (tie.spec (λ c. search needs) (λ c. search needs) (λ c κs. search needs) (λ c κs. search needs) add-t12 (λ c κs. search needs) returns (λ c. search needs) add-t14 returns-2 returns-3)

@@ -4,8 +4,10 @@ use Prim.Native.Nat.{ℕ, _+_, _-_, _^_, _<_}
 use native.Mathlib.Nat.{add-assoc}
 use native.Mathlib.Omega.{arith}
 use borrow.Author.Needs.{needs}
+use Rattle.grid.specs.declared.Rounded.{Rounded}
 use Rattle.patterns.specs.Pattern.{withSign}
 use Rattle.patterns.proofs.Floats.{inf-lt, nan-lt}
+use Rattle.kinds.specs.declared.Fared.the-variants.{Exact}
 use Rattle.kinds.specs.declared.Fit.the-variants.{Pattern}
 use Rattle.floats.specs.Form.{CanonicalClass}
 use Rattle.floats.specs.declared.Class.the-variants.{NotANumber}
@@ -25,7 +27,7 @@ returns c =
     let a = t .args in
     let k = c .before .before .before .class .given in
     c .fit-bits .ensures
-    ∙ number-fit (a .p) (a .w) (a .s) (t .pre .1 .two) (t .pre .2 .positive) (a .mode) (a .range) (a .x .negative) _ (m .result) (m .ensures)
+    ∙ number-fit (a .p) (a .w) (a .s) (t .pre .1 .two) (t .pre .2 .positive) (a .mode) (a .range) (a .x .negative) _ (m .result .bits) (ap (λ (w : Rounded). w .bits) (m .ensures)) (m .result .ternary) (ap (λ (w : Rounded). w .ternary) (m .ensures))
     ∙ finite-fit (a .p) (a .w) (a .s) (a .mode) (a .range) (a .x) (k .0 .0) (k .1)
 
 add-infinity : tie.Need-add-infinity
@@ -52,8 +54,8 @@ nan-under c =
     let f = t .pre .2 in
     omega (arith, nan-lt (a .p) (a .w) 0 (f .two) (f .positive) (c .quiet-fraction .result) (subst (λ (z : ℕ). z < 2 ^ (a .p - 1)) (sym (c .quiet-fraction .ensures)) (quiet-lt (a .p) _ (f .two))), i .infinity-bits .ensures)
 
-add-t18 : tie.Need-add-t18
-add-t18 c =
+add-t19 : tie.Need-add-t19
+add-t19 c =
     let i = c .before .before .before .before in
     let t = i .before .before .before in
     let a = t .args in
@@ -68,7 +70,7 @@ returns-2 c =
     let a = t .args in
     let s = i .before .sign-bit in
     let k = c .before .before .class2 .given in
-    ap Pattern (add-assoc (s .result) (i .infinity-bits .result) (c .quiet-fraction .result) ∙ signed-sum (a .w + a .p) (a .x .negative) (s .result) _ (s .ensures) ∙ ap₂ (λ (x y : ℕ). withSign (a .w + a .p) (a .x .negative) (x + y)) (i .infinity-bits .ensures) (c .quiet-fraction .ensures))
+    ap (λ (z : ℕ). Pattern z Exact) (add-assoc (s .result) (i .infinity-bits .result) (c .quiet-fraction .result) ∙ signed-sum (a .w + a .p) (a .x .negative) (s .result) _ (s .ensures) ∙ ap₂ (λ (x y : ℕ). withSign (a .w + a .p) (a .x .negative) (x + y)) (i .infinity-bits .ensures) (c .quiet-fraction .ensures))
     ∙ nan-fit (a .p) (a .w) (a .s) (a .mode) (a .range) (a .x) (k .0 .0) (k .1) (fraction (c .before) .1) (t .pre .2 .fewer)
 
 returns-3 : tie.Need-returns-3
@@ -76,8 +78,8 @@ returns-3 c =
     let i = c .before in
     let a = i .before .before .before .args in
     let s = i .before .sign-bit in
-    ap Pattern (signed-sum (a .w + a .p) (a .x .negative) (s .result) (i .infinity-bits .result) (s .ensures) ∙ ap (withSign (a .w + a .p) (a .x .negative)) (i .infinity-bits .ensures))
+    ap (λ (z : ℕ). Pattern z Exact) (signed-sum (a .w + a .p) (a .x .negative) (s .result) (i .infinity-bits .result) (s .ensures) ∙ ap (withSign (a .w + a .p) (a .x .negative)) (i .infinity-bits .ensures))
     ∙ infinite-fit (a .p) (a .w) (a .s) (a .mode) (a .range) (a .x) (i .before .before .match .keys2) (c .match2 .keys2)
 
 pub narrow-spec : {M : Type 1} → statement M
-narrow-spec = tie.close (tie.spec (λ c. search needs) narrow-magnitude-requires (λ c κs. search needs) returns (λ c. search needs) (λ c. search needs) (λ c κs. search needs) (λ c κs. search needs) add-infinity (λ c. search needs) quiet-fraction-requires add-t18 returns-2 returns-3)
+narrow-spec = tie.close (tie.spec (λ c. search needs) narrow-magnitude-requires (λ c κs. search needs) returns (λ c. search needs) (λ c. search needs) (λ c κs. search needs) (λ c κs. search needs) add-infinity (λ c. search needs) quiet-fraction-requires add-t19 returns-2 returns-3)

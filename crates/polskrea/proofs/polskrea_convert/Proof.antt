@@ -1,4 +1,4 @@
--- `polskrea::polskrea_convert` meets its contract: its number and its words are those of the chunk call's answer, which is the definition's.
+-- `polskrea::polskrea_convert` meets its contract: its number and its fields are those of the chunk call's reply, which is the definition's.
 use borrow.Author.Needs.{needs}
 use Rattle.polskrea.proofs.polskrea_convert.Tie as tie
 use Rattle.polskrea.proofs.polskrea_convert.Statement.{statement}

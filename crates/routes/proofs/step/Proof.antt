@@ -24,8 +24,8 @@ integer-pattern b f row h = record { positive = row .positive; at-most-64 = row 
 
 returns : tie.Need-returns
 returns c =
-    let a = c .before .before .before .args in
-    found-fit (a .found) (fitOf (unmapped (sourceOf (a .route)) (targetOf (a .route)) (a .mode) (a .range) (a .b))) (c .before .found .given .0 .0) (c .before .found .given .1)
+    let a = c .before .before .before .before .args in
+    c .mapped .ensures ∙ found-fit (a .found) (fitOf (unmapped (sourceOf (a .route)) (targetOf (a .route)) (a .mode) (a .range) (a .b))) (c .before .before .found .given .0 .0) (c .before .before .found .given .1)
 
 int-magnitude-requires : tie.Need-int-magnitude-requires
 int-magnitude-requires c κs =
@@ -126,4 +126,4 @@ returns-6 c =
     ∙ ap (λ (r : Route). stepped (a .found) (sourceOf r) (targetOf r) (a .mode) (a .range) (a .b)) (sym (k .1))
 
 pub step-spec : {M : Type 1} → statement M
-step-spec = tie.close (tie.spec (λ c. search needs) returns (λ c. search needs) (λ c. search needs) (λ c. search needs) int-magnitude-requires step-int-to-int-requires (λ c. search needs) int-magnitude-requires-2 step-int-to-float-requires (λ c. search needs) read-float-requires step-float-to-int-requires (λ c. search needs) read-float-requires-2 step-float-to-float-requires returns-2 returns-3 returns-4 returns-5 returns-6)
+step-spec = tie.close (tie.spec (λ c. search needs) (λ c κs. search needs) returns (λ c. search needs) (λ c. search needs) (λ c. search needs) int-magnitude-requires step-int-to-int-requires (λ c. search needs) int-magnitude-requires-2 step-int-to-float-requires (λ c. search needs) read-float-requires step-float-to-int-requires (λ c. search needs) read-float-requires-2 step-float-to-float-requires returns-2 returns-3 returns-4 returns-5 returns-6)

@@ -8,10 +8,10 @@ use Rattle.steps.proofs.step_float_to_float.Statement.{statement}
 use Rattle.steps.proofs.step_float_to_float.Tie as tie
 
 returns : tie.Need-returns
-returns c = let a = c .before .before .before .args in found-fit (a .found) (fitFloat (floatOf (a .to)) (a .mode) (a .range) (a .x)) (c .before .found .given .0 .0) (c .before .found .given .1)
+returns c = let a = c .before .before .before .before .args in c .mapped .ensures ∙ found-fit (a .found) (fitFloat (floatOf (a .to)) (a .mode) (a .range) (a .x)) (c .before .before .found .given .0 .0) (c .before .before .found .given .1)
 
 returns-2 : tie.Need-returns-2
 returns-2 c = let a = c .before .before .before .args in c .convert-float-to-float .ensures ∙ missing-fit (a .found) (fitFloat (floatOf (a .to)) (a .mode) (a .range) (a .x)) (c .before .enum-told .given .1)
 
 pub step-float-to-float-spec : {M : Type 1} → statement M
-step-float-to-float-spec = tie.close (tie.spec (λ c. search needs) returns (λ c. search needs) (λ c κs. search needs) returns-2)
+step-float-to-float-spec = tie.close (tie.spec (λ c. search needs) (λ c κs. search needs) returns (λ c. search needs) (λ c κs. search needs) returns-2)

@@ -1,4 +1,4 @@
--- `typed::step_f64_i32` meets its contract: the element is stored, or refused.
+-- `typed::step_f64_i32` meets its contract: the element is stored and counted, or refused.
 use mathlib.Core.Path.{_≡_, _∙_}
 use mathlib.Core.Bool.{true}
 use mathlib.Core.List.{map}
@@ -25,14 +25,15 @@ step-float-to-int-requires c κs = let t = c .before .before in (read-canonical 
 
 returns : tie.Need-returns
 returns c =
-    let k = c .before .before .before in
+    let m = c .before .before in
+    let k = m .before .before .before in
     let t = k .before .before in
     let x = t .before .read-f64 in
     let start = t .before .before .before in
     let a = start .args in
-    stored i32Of (map f64Bits (now (a .src))) (now (a .dst)) 9 2 (a .s) (a .f) (t .step-float-to-int .result)
+    stored i32Of (map f64Bits (now (a .src))) (now (a .dst)) (now (a .tally)) 9 2 (a .s) (a .f) (t .step-float-to-int .result)
     (t .step-float-to-int .ensures ∙ float-to-integer-steps 53 11 0 (a .s .x) (f64-formed (start .args .s .x) (start .pre .0)) (x .result) (x .ensures) (a .f) true 32 (a .s .rounding) (a .s .range))
-    (c .state-f64 .result) (k .fit .given .0 .0) (k .fit .given .1) _ (read-back c ∙ c .before .i32-of .ensures) (c .state-f64 .ensures)
+    (c .state-f64 .result) (k .fit .given .0 .0) (k .fit .given .0 .1 .0) (k .fit .given .1) _ (read-back c ∙ c .before .i32-of .ensures) _ (m .count .ensures) (c .state-f64 .ensures)
 
 returns-2 : tie.Need-returns-2
 returns-2 c =
@@ -41,12 +42,12 @@ returns-2 c =
     let x = t .before .read-f64 in
     let start = t .before .before .before in
     let a = start .args in
-    refused i32Of (map f64Bits (now (a .src))) (now (a .dst)) 9 2 (a .s) (a .f) (t .step-float-to-int .result)
+    refused i32Of (map f64Bits (now (a .src))) (now (a .dst)) (now (a .tally)) 9 2 (a .s) (a .f) (t .step-float-to-int .result)
     (t .step-float-to-int .ensures ∙ float-to-integer-steps 53 11 0 (a .s .x) (f64-formed (start .args .s .x) (start .pre .0)) (x .result) (x .ensures) (a .f) true 32 (a .s .rounding) (a .s .range))
     (c .refuse .result) (m .match .keys2) (c .before .outcome .result) (c .before .outcome .ensures) (c .refuse .ensures)
 
 pub step-f64-i32-spec : {M : Type 1} → statement M
 step-f64-i32-spec = tie.close (tie.spec
-    (λ c κs. search needs) step-float-to-int-requires (λ c. search needs) (λ c κs. search needs) (λ c. search needs) (λ c. search needs) (λ c. search needs) (λ c κs. search needs) (λ c. search needs) returns
+    (λ c κs. search needs) step-float-to-int-requires (λ c. search needs) (λ c κs. search needs) (λ c κs. search needs) (λ c. search needs) (λ c. search needs) (λ c. search needs) (λ c κs. search needs) (λ c. search needs) returns
     (λ c κs. (f64-pattern _ (c .before .before .before .before .pre .0), i32-row))
     (λ c κs. search needs) returns-2)

@@ -1,0 +1,43 @@
+-- To be believed: "five counts: mapped, exact, rounded, clamped, wrapped".
+use mathlib.Core.List.{List}
+use Prim.Native.Nat.{ℕ}
+use lib.ListN.{getD}
+use Rattle.grid.specs.declared.Ternary.{Ternary}
+use Rattle.grid.specs.declared.Ternary.the-variants as T
+use Rattle.kinds.specs.declared.Fared.{Fared}
+use Rattle.kinds.specs.declared.Fared.the-variants.{Mapped, Exact, Rounded, Clamped, Wrapped}
+use Rattle.kinds.specs.declared.Answer.{Answer}
+use Rattle.kinds.specs.declared.Counts.{Counts}
+use Rattle.kinds.specs.declared.Reply.{Reply}
+
+-- "any other as exact or rounded by its pick"
+abbrev pub byPick : Ternary → Fared
+byPick T.Exact = Exact
+byPick T.Below = Rounded
+byPick T.Above = Rounded
+
+-- the order of the five
+abbrev pub placeOf : Fared → ℕ
+placeOf Mapped = 0
+placeOf Exact = 1
+placeOf Rounded = 2
+placeOf Clamped = 3
+placeOf Wrapped = 4
+
+abbrev pub noCounts : Counts
+noCounts = record { mapped = 0; exact = 0; rounded = 0; clamped = 0; wrapped = 0 }
+
+-- "Refusals 1 to 4 give five zeros."
+abbrev pub unconverted : Answer → Reply
+unconverted a = record { answer = a; counts = noCounts }
+
+abbrev pub countOf : Fared → Counts → ℕ
+countOf Mapped c = c .mapped
+countOf Exact c = c .exact
+countOf Rounded c = c .rounded
+countOf Clamped c = c .clamped
+countOf Wrapped c = c .wrapped
+
+-- the counts in a row
+abbrev pub countsIn : List ℕ → Counts
+countsIn t = record { mapped = getD t 0 0; exact = getD t 1 0; rounded = getD t 2 0; clamped = getD t 3 0; wrapped = getD t 4 0 }
