@@ -1,5 +1,10 @@
 //! One chunk on both sides, what is counted, and the differences.
-use crate::{first_difference, has_typed, is_nan, ours, ours_typed, pattern, put, reference, slices, width, Answer, Reference, Settings};
+use crate::account::{self, Class};
+use crate::{
+    first_difference, has_typed, is_nan, lengths_differ, ours, ours_typed, pattern, put, reference, slices, width, Answer, Reference,
+    Settings,
+};
+use polskrea::Counts;
 use std::collections::BTreeMap;
 use std::ops::Range;
 
@@ -88,15 +93,23 @@ impl Route {
             Route::Typed => "typed call",
         }
     }
+
+    fn call(self, s: Settings, src: &[u8], dst: &mut [u8], keys: &[u8], targets: &[u8]) -> (Answer, Counts) {
+        match self {
+            Route::Bytes => ours(s, src, dst, keys, targets),
+            Route::Typed => ours_typed(s, src, dst, keys, targets),
+        }
+    }
 }
 
-/// What a chunk's elements come to by the original, and what they are.
+/// What a chunk's elements come to by the original and by the account, and what they are.
 struct Chunk<'a> {
     s: Settings,
     src: &'a [u8],
     keys: &'a [u8],
     targets: &'a [u8],
     expected: &'a Reference,
+    classes: &'a [Class],
 }
 
 impl Chunk<'_> {
@@ -111,11 +124,20 @@ impl Chunk<'_> {
     }
 }
 
+/// What is due of a call.
+struct Due<'a> {
+    answer: Answer,
+    counts: Counts,
+    after: &'a [u8],
+}
+
 /// Scratch space of a worker, with its tally.
 #[derive(Default)]
 pub struct Check {
     pub tally: Tally,
     reference: Reference,
+    /// of the account, one for each element
+    classes: Vec<Class>,
     dst: Vec<u8>,
     /// what a destination holds before a call
     marks: Vec<u8>,
@@ -139,26 +161,32 @@ fn gather(out: &mut Vec<u8>, bytes: &[u8], w: usize, refused: &[Answer]) {
     out.clear();
     let mut start = 0;
     for r in refused {
-        let at = r.words[0] as usize;
+        let at = r.position as usize;
         out.extend_from_slice(&bytes[start * w..at * w]);
         start = at + 1;
     }
     out.extend_from_slice(&bytes[start * w..]);
 }
 
+/// The first of these elements that, converted alone, is counted otherwise than the account has it; else the first of all.
+fn miscounted(c: &Chunk, route: Route, mut places: Range<usize>) -> usize {
+    let (w, first) = (width(c.s.from), places.start);
+    let mut dst = vec![0; width(c.s.to)];
+    let found = places.find(|i| {
+        let (_, alone) = route.call(c.s, &c.src[i * w..i * w + w], &mut dst, c.keys, c.targets);
+        alone != account::counts(&c.classes[*i..=*i])
+    });
+    found.unwrap_or(first)
+}
+
 impl Check {
     /// One call of the library, counted.
-    fn run(&mut self, route: Route, s: Settings, src: &[u8], dst: &mut [u8], keys: &[u8], targets: &[u8]) -> Answer {
+    fn run(&mut self, route: Route, s: Settings, src: &[u8], dst: &mut [u8], keys: &[u8], targets: &[u8]) -> (Answer, Counts) {
         match route {
-            Route::Bytes => {
-                self.tally.calls += 1;
-                ours(s, src, dst, keys, targets)
-            }
-            Route::Typed => {
-                self.tally.typed += 1;
-                ours_typed(s, src, dst, keys, targets)
-            }
+            Route::Bytes => self.tally.calls += 1,
+            Route::Typed => self.tally.typed += 1,
         }
+        route.call(s, src, dst, keys, targets)
     }
 
     /// Fills the destination with so many marks of a kind.
@@ -176,18 +204,23 @@ impl Check {
     }
 
     /// Compares a chunk of whole elements with a whole map, by the chunk call, by the typed call where there is one, and by the original's slice
-    /// function. The first call is handed the whole chunk, and each later one what stands behind a refused element, to `look` elements from the
-    /// next refused one on. So each element is compared, and the whole rest of every destination after every refusal.
+    /// function; and the counts with the account. The first call is handed the whole chunk, and each later one what stands behind a refused
+    /// element, to `look` elements from the next refused one on. So each element is compared, and the whole rest of every destination after
+    /// every refusal.
     pub fn chunk(&mut self, s: Settings, src: &[u8], keys: &[u8], targets: &[u8], look: usize) {
         let mut expected = std::mem::take(&mut self.reference);
         reference(s, src, keys, targets, &mut expected);
+        let mut classes = std::mem::take(&mut self.classes);
+        account::classes(s, src, keys, &mut classes);
         let c = Chunk {
             s,
             src,
             keys,
             targets,
             expected: &expected,
+            classes: &classes,
         };
+        self.accounted(&c);
         if has_typed(s.from, s.to) {
             self.walk(&c, Route::Typed, look);
         }
@@ -196,6 +229,17 @@ impl Check {
         self.tally.elements += c.count() as u64;
         self.tally.refusals += expected.refused.len() as u64;
         self.reference = expected;
+        self.classes = classes;
+    }
+
+    /// The account refuses what the original refuses. That it refuses nothing else shows in the sums of its counts.
+    fn accounted(&mut self, c: &Chunk) {
+        for at in c.expected.refused.iter().map(|r| r.position as usize) {
+            if c.classes[at] != Class::Refused {
+                let text = format!("the account has {:?} where the original refuses", c.classes[at]);
+                self.tally.differs(c.s, c.element(at), text);
+            }
+        }
     }
 
     /// The calls of one route on a chunk. Leaves what they stored in the destination.
@@ -206,11 +250,12 @@ impl Check {
         let mut start = 0;
         for next in 0..=c.expected.refused.len() {
             let refused = c.expected.refused.get(next);
-            let end = refused.map_or(n, |r| r.words[0] as usize);
+            let end = refused.map_or(n, |r| r.position as usize);
             let until = if next == 0 || refused.is_none() { n } else { n.min(end + look) };
             let (from, to) = (&c.src[start * sw..until * sw], &mut dst[start * dw..until * dw]);
-            let got = self.run(route, c.s, from, to, c.keys, c.targets);
+            let (got, counts) = self.run(route, c.s, from, to, c.keys, c.targets);
             self.answered(c, route, start, refused, got);
+            self.counted(c, route, start..end, counts);
             self.stored(c, route, start..end, &dst);
             self.untouched(c, route, end..until, &mut dst);
             start = end + 1;
@@ -220,21 +265,35 @@ impl Check {
 
     /// The answer of a call on the elements from `start` on.
     fn answered(&mut self, c: &Chunk, route: Route, start: usize, refused: Option<&Answer>, got: Answer) {
-        let want = refused.map_or(Answer::CONVERTED, |r| Answer {
-            number: r.number,
-            words: [r.words[0] - start as u64, r.words[1], r.words[2], r.words[3]],
+        let want = refused.map_or(Answer::default(), |r| Answer {
+            position: r.position - start as u64,
+            ..*r
         });
         if got.same(&want) {
             return;
         }
-        let end = refused.map_or(c.count(), |r| r.words[0] as usize);
+        let end = refused.map_or(c.count(), |r| r.position as usize);
         let at = if 5 <= got.number {
-            end.min(start + got.words[0] as usize)
+            end.min(start + got.position as usize)
         } else {
             end
         };
         let text = format!("{}: answer {} where the original has {}", route.name(), got.text(), want.text());
         self.tally.differs(c.s, c.element(at), text);
+    }
+
+    /// The counts of a call that converts these elements: those of the account, and in sum as many as the elements.
+    fn counted(&mut self, c: &Chunk, route: Route, places: Range<usize>, got: Counts) {
+        let want = account::counts(&c.classes[places.clone()]);
+        if got == want && want.converted() == places.len() as u64 {
+            return;
+        }
+        let text = format!(
+            "{}: counts {got} where the account has {want}, in a call that converts {}",
+            route.name(),
+            places.len()
+        );
+        self.tally.differs(c.s, c.element(miscounted(c, route, places)), text);
     }
 
     /// What a call stored at the places of accepted elements.
@@ -291,57 +350,81 @@ impl Check {
         self.accepted = [src, stored, dst];
     }
 
-    /// One call, whatever is handed in, by the chunk call and, where it can be made, by the typed call: against `whole_call`.
+    /// One call, whatever is handed in, by the chunk call and, where it can be made, by the typed call: against `whole_call` and the account.
     pub fn call(&mut self, s: Settings, src: &[u8], dst: &[u8], keys: &[u8], targets: &[u8]) {
-        let (want, after) = whole_call(s, src, dst, keys, targets);
-        self.one_call(Route::Bytes, s, [src, dst, keys, targets], want, &after);
-        if 0 < want.number {
+        let (answer, after) = whole_call(s, src, dst, keys, targets);
+        let counts = self.counts_due(s, src, keys, &answer);
+        let due = Due {
+            answer,
+            counts,
+            after: &after,
+        };
+        self.one_call(Route::Bytes, s, [src, dst, keys, targets], &due);
+        if 0 < answer.number {
             self.tally.refusals += 1;
         }
         if has_typed(s.from, s.to) && whole_map(s, keys.len(), targets.len()) && whole_elements(s, src.len(), dst.len()) {
-            self.one_call(Route::Typed, s, [src, dst, keys, targets], want, &after);
+            self.one_call(Route::Typed, s, [src, dst, keys, targets], &due);
         }
-        if want.number == 4 {
+        if answer.number == 4 {
             self.tally.slices += 1;
             let got = slices(s, src, keys, targets, &mut dst.to_vec());
-            if got != want {
-                let text = format!("the original's slice function answers {} where {} is due", got.text(), want.text());
+            if got != answer {
+                let text = format!(
+                    "the original's slice function answers {} where {} is due",
+                    got.text(),
+                    answer.text()
+                );
                 self.tally.differs(s, src.len() as u64, text);
             }
         }
     }
 
-    fn one_call(&mut self, route: Route, s: Settings, [src, dst, keys, targets]: [&[u8]; 4], want: Answer, after: &[u8]) {
+    /// The account's counts of a call: of the elements before the first that it refuses, which are as many as the call converts.
+    fn counts_due(&mut self, s: Settings, src: &[u8], keys: &[u8], answer: &Answer) -> Counts {
+        let converted = match answer.number {
+            0 => (src.len() / width(s.from)) as u64,
+            1..=4 => return Counts::default(),
+            _ => answer.position,
+        };
+        account::classes(s, src, keys, &mut self.classes);
+        let before = self.classes.split(|c| *c == Class::Refused).next().unwrap_or_default();
+        let counts = account::counts(before);
+        if counts.converted() != converted {
+            let text = format!("the account has {counts} where the original converts {converted}");
+            self.tally.differs(s, src.len() as u64, text);
+        }
+        counts
+    }
+
+    fn one_call(&mut self, route: Route, s: Settings, [src, dst, keys, targets]: [&[u8]; 4], due: &Due) {
         let mut got_dst = std::mem::take(&mut self.dst);
         got_dst.clear();
         got_dst.extend_from_slice(dst);
-        let got = self.run(route, s, src, &mut got_dst, keys, targets);
-        let lengths = [src.len(), dst.len(), keys.len(), targets.len()];
-        if !got.same(&want) {
-            let text = format!(
-                "{}, {lengths:?} bytes: answer {} where {} is due",
-                route.name(),
-                got.text(),
-                want.text()
-            );
+        let (got, counts) = self.run(route, s, src, &mut got_dst, keys, targets);
+        let lengths = [src, dst, keys, targets].map(<[u8]>::len);
+        let mut differs = |text: String| {
+            let text = format!("{}, {lengths:?} bytes: {text}", route.name());
             self.tally.differs(s, src.len() as u64, text);
+        };
+        if !got.same(&due.answer) {
+            differs(format!("answer {} where {} is due", got.text(), due.answer.text()));
         }
-        let same = if s.to < 10 && after.len() % width(s.to) == 0 {
-            first_difference(s.to, &got_dst, after).is_none()
+        if counts != due.counts {
+            differs(format!("counts {counts} where {} are due", due.counts));
+        }
+        let same = if s.to < 10 && due.after.len() % width(s.to) == 0 {
+            first_difference(s.to, &got_dst, due.after).is_none()
         } else {
-            got_dst == after
+            got_dst == due.after
         };
         if !same {
-            let text = format!(
-                "{}, {lengths:?} bytes: destination {got_dst:02x?} where {after:02x?} is due",
-                route.name()
-            );
-            self.tally.differs(s, src.len() as u64, text);
+            differs(format!("destination {got_dst:02x?} where {:02x?} is due", due.after));
         }
         self.dst = got_dst;
     }
 
-    /// Our results under clamp against the second opinion.
+    /// Our results under clamp against the second opinion, and the counts against the account.
     pub fn opinion(&mut self, s: Settings, patterns: &[u64]) {
         let mut src = Vec::with_capacity(patterns.len() * width(s.from));
         for p in patterns {
@@ -349,18 +432,28 @@ impl Check {
         }
         let (sw, dw) = (width(s.from), width(s.to));
         let want = crate::ieee::opinion(s, patterns);
+        let mut classes = std::mem::take(&mut self.classes);
+        account::classes(s, &src, &[], &mut classes);
+        let c = Chunk {
+            s,
+            src: &src,
+            keys: &[],
+            targets: &[],
+            expected: &Reference::default(),
+            classes: &classes,
+        };
         let mut dst = std::mem::take(&mut self.dst);
         dst.clear();
         dst.resize(patterns.len() * dw, 0xa5);
         let mut start = 0;
         while start < patterns.len() {
-            let got = ours(s, &src[start * sw..], &mut dst[start * dw..], &[], &[]);
-            self.tally.calls += 1;
+            let (got, counts) = self.run(Route::Bytes, s, &src[start * sw..], &mut dst[start * dw..], &[], &[]);
             let end = if got.number == 0 {
                 patterns.len()
             } else {
-                start + got.words[0] as usize
+                start + got.position as usize
             };
+            self.counted(&c, Route::Bytes, start..end, counts);
             for i in start..end {
                 let y = pattern(&dst[i * dw..i * dw + dw]);
                 let same = want[i].is_some_and(|w| w == y || is_nan(s.to, w) && is_nan(s.to, y));
@@ -383,6 +476,7 @@ impl Check {
         }
         self.tally.elements += patterns.len() as u64;
         self.dst = dst;
+        self.classes = classes;
     }
 }
 
@@ -399,7 +493,12 @@ fn whole_elements(s: Settings, src: usize, dst: usize) -> bool {
 
 /// Document 01's table for the refusals 1 to 4; `None` where the call reaches the elements.
 pub fn checks(s: Settings, src: usize, dst: usize, keys: usize, targets: usize) -> Option<Answer> {
-    let plain = |number| Some(Answer { number, words: [0; 4] });
+    let plain = |number| {
+        Some(Answer {
+            number,
+            ..Answer::default()
+        })
+    };
     if 10 <= s.from || 10 <= s.to || 5 <= s.rounding || 3 <= s.range {
         return plain(1);
     }
@@ -411,10 +510,7 @@ pub fn checks(s: Settings, src: usize, dst: usize, keys: usize, targets: usize) 
         return plain(3);
     }
     if src / sw != dst / dw {
-        return Some(Answer {
-            number: 4,
-            words: [(src / sw) as u64, (dst / dw) as u64, 0, 0],
-        });
+        return Some(lengths_differ(src / sw, dst / dw));
     }
     None
 }
@@ -427,11 +523,11 @@ pub fn whole_call(s: Settings, src: &[u8], dst: &[u8], keys: &[u8], targets: &[u
     }
     let mut r = Reference::default();
     reference(s, src, keys, targets, &mut r);
-    let answer = r.refused.first().copied().unwrap_or(Answer::CONVERTED);
+    let answer = r.refused.first().copied().unwrap_or_default();
     let end = if answer.number == 0 {
         after.len()
     } else {
-        answer.words[0] as usize * width(s.to)
+        answer.position as usize * width(s.to)
     };
     after[..end].copy_from_slice(&r.stored[..end]);
     (answer, after)

@@ -1,13 +1,14 @@
 //! Both sides of the comparison. Ours: `ours`, the chunk call, and `ours_typed`, the typed calls. The original's: `reference`, its element
-//! functions applied in order, and `slices`, its slice functions.
+//! functions applied in order, and `slices`, its slice functions. It has no counts: `account` has them.
 use original::{
     convert_float_to_float, convert_float_to_int, convert_int_to_float, convert_int_to_int, convert_slice_float_to_float,
     convert_slice_float_to_int, convert_slice_int_to_float, convert_slice_int_to_int, CastError, CastFloat, CastInt, CastInto,
     FloatToFloatConfig, FloatToIntConfig, IntToFloatConfig, IntToIntConfig, MapEntry, OutOfRangeMode, RoundingMode,
 };
-use polskrea::{sys, Entry};
+use polskrea::{sys, Counts, Entry};
 use std::ptr;
 
+pub mod account;
 pub mod compare;
 pub mod ieee;
 pub mod samples;
@@ -67,42 +68,77 @@ pub fn all_settings() -> Vec<Settings> {
     all
 }
 
-/// A call's number and its four words.
-#[derive(Clone, Copy, Debug, PartialEq, Eq)]
+/// A call's number and the fields of a refusal, 0 where they do not apply: what both sides have. The default is that of a converted chunk.
+#[derive(Clone, Copy, Debug, Default, PartialEq, Eq)]
 pub struct Answer {
     pub number: u8,
-    pub words: [u64; 4],
+    pub src_len: u64,
+    pub dst_len: u64,
+    pub position: u64,
+    pub value: u64,
+    pub lowest: u64,
+    pub highest: u64,
 }
 
 impl Answer {
-    pub const CONVERTED: Answer = Answer { number: 0, words: [0; 4] };
-
     /// Equal, with the value of 5 to 7 a NaN where the other's is one.
     pub fn same(&self, other: &Answer) -> bool {
-        if self == other {
-            return true;
+        let nan = |a: &Answer| 5 <= a.number && f64::from_bits(a.value).is_nan();
+        if nan(self) && nan(other) {
+            let value = other.value;
+            return Answer { value, ..*self } == *other;
         }
-        let nan = |a: &Answer| f64::from_bits(a.words[1]).is_nan();
-        5 <= self.number
-            && self.number == other.number
-            && self.words[0] == other.words[0]
-            && self.words[2..] == other.words[2..]
-            && nan(self)
-            && nan(other)
+        self == other
     }
 
     pub fn text(&self) -> String {
-        let [a, b, c, d] = self.words;
-        match self.number {
-            4 => format!("4, counts {a} and {b}, {c:#x}, {d:#x}"),
-            n if 5 <= n => format!("{n} at {a}, value {b:#018x} ({:e}), ends {c:#x} and {d:#x}", f64::from_bits(b)),
-            n => format!("{n}, words {a:#x} {b:#x} {c:#x} {d:#x}"),
-        }
+        let Answer {
+            number,
+            src_len,
+            dst_len,
+            position,
+            value,
+            lowest,
+            highest,
+        } = self;
+        let double = f64::from_bits(*value);
+        format!(
+            "{number}, lengths {src_len} and {dst_len}, at {position}, value {value:#018x} ({double:e}), ends {lowest:#x} and {highest:#x}"
+        )
     }
 }
 
-/// What stands in the words before a call, so that one that is not written shows.
-const UNWRITTEN: sys::Answer = [0x5555_5555_5555_5555; 4];
+/// What stands in the fields before a call, so that one that is not written shows.
+const UNWRITTEN: sys::Answer = {
+    let mark = 0x5555_5555_5555_5555;
+    sys::Answer {
+        src_len: mark,
+        dst_len: mark,
+        position: mark,
+        value: mark,
+        lowest: mark,
+        highest: mark,
+        mapped: mark,
+        exact: mark,
+        rounded: mark,
+        clamped: mark,
+        wrapped: mark,
+    }
+};
+
+/// What a call of the library answered.
+fn answered(number: u8, fields: &sys::Answer) -> (Answer, Counts) {
+    let answer = Answer {
+        number,
+        src_len: fields.src_len,
+        dst_len: fields.dst_len,
+        position: fields.position,
+        value: fields.value,
+        lowest: fields.lowest,
+        highest: fields.highest,
+    };
+    (answer, Counts::from(fields))
+}
 
 fn address<T>(s: &[T]) -> *const T {
     if s.is_empty() {
@@ -114,8 +150,8 @@ fn address<T>(s: &[T]) -> *const T {
 
 /// The proved library. An empty slice goes in as a null pointer.
 #[inline]
-pub fn ours(s: Settings, src: &[u8], dst: &mut [u8], keys: &[u8], targets: &[u8]) -> Answer {
-    let mut words = UNWRITTEN;
+pub fn ours(s: Settings, src: &[u8], dst: &mut [u8], keys: &[u8], targets: &[u8]) -> (Answer, Counts) {
+    let mut fields = UNWRITTEN;
     let to = if dst.is_empty() { ptr::null_mut() } else { dst.as_mut_ptr() };
     // SAFETY: pointers and lengths are slices', and what is written is `&mut`.
     let number = unsafe {
@@ -132,10 +168,10 @@ pub fn ours(s: Settings, src: &[u8], dst: &mut [u8], keys: &[u8], targets: &[u8]
             s.to,
             s.rounding,
             s.range,
-            &mut words,
+            &mut fields,
         )
     };
-    Answer { number, words }
+    answered(number, &fields)
 }
 
 /// An element type and its bytes.
@@ -185,8 +221,8 @@ typed!(i64, f32, polskrea_convert_i64_to_f32);
 
 /// A typed call of the proved library. An empty slice goes in as a null pointer.
 #[inline]
-pub fn typed<S: Typed<D>, D>(s: Settings, src: &[S], dst: &mut [D], entries: &[Entry<S, D>]) -> Answer {
-    let mut words = UNWRITTEN;
+pub fn typed<S: Typed<D>, D>(s: Settings, src: &[S], dst: &mut [D], entries: &[Entry<S, D>]) -> (Answer, Counts) {
+    let mut fields = UNWRITTEN;
     let to = if dst.is_empty() { ptr::null_mut() } else { dst.as_mut_ptr() };
     // SAFETY: pointers and lengths are slices', and what is written is `&mut`.
     let number = unsafe {
@@ -199,10 +235,10 @@ pub fn typed<S: Typed<D>, D>(s: Settings, src: &[S], dst: &mut [D], entries: &[E
             entries.len(),
             s.rounding,
             s.range,
-            &mut words,
+            &mut fields,
         )
     };
-    Answer { number, words }
+    answered(number, &fields)
 }
 
 /// The map of a typed call.
@@ -239,28 +275,33 @@ pub struct Reference {
 }
 
 fn refusal(position: usize, error: CastError) -> Answer {
-    let at = position as u64;
+    let refused = |number, value: f64, lowest, highest| Answer {
+        number,
+        position: position as u64,
+        value: value.to_bits(),
+        lowest,
+        highest,
+        ..Answer::default()
+    };
     match error {
-        CastError::NanOrInf { value } => Answer {
-            number: 5,
-            words: [at, value.to_bits(), 0, 0],
-        },
+        CastError::NanOrInf { value } => refused(5, value, 0, 0),
         CastError::OutOfRange { value, lo, hi } => {
-            let lo = i64::try_from(lo).expect("a lowest end fits i64") as u64;
-            let hi = u64::try_from(hi).expect("a highest end fits u64");
-            Answer {
-                number: 6,
-                words: [at, value.to_bits(), lo, hi],
-            }
+            let lowest = i64::try_from(lo).expect("a lowest end fits i64") as u64;
+            let highest = u64::try_from(hi).expect("a highest end fits u64");
+            refused(6, value, lowest, highest)
         }
-        CastError::FloatOutOfRange { value, lo, hi } => Answer {
-            number: 7,
-            words: [at, value.to_bits(), lo.to_bits(), hi.to_bits()],
-        },
-        CastError::LengthMismatch { src_len, dst_len } => Answer {
-            number: 4,
-            words: [src_len as u64, dst_len as u64, 0, 0],
-        },
+        CastError::FloatOutOfRange { value, lo, hi } => refused(7, value, lo.to_bits(), hi.to_bits()),
+        CastError::LengthMismatch { src_len, dst_len } => lengths_differ(src_len, dst_len),
+    }
+}
+
+/// The number 4, with both element counts.
+pub fn lengths_differ(src_len: usize, dst_len: usize) -> Answer {
+    Answer {
+        number: 4,
+        src_len: src_len as u64,
+        dst_len: dst_len as u64,
+        ..Answer::default()
     }
 }
 
@@ -295,8 +336,8 @@ pub fn has_typed(from: u8, to: u8) -> bool {
 }
 
 /// The typed call of the two kinds, on whole elements and a whole map; source and destination stand at their alignment.
-pub fn ours_typed(s: Settings, src: &[u8], dst: &mut [u8], keys: &[u8], targets: &[u8]) -> Answer {
-    fn call<S: Typed<D>, D: Element>(s: Settings, src: &[u8], dst: &mut [u8], keys: &[u8], targets: &[u8]) -> Answer {
+pub fn ours_typed(s: Settings, src: &[u8], dst: &mut [u8], keys: &[u8], targets: &[u8]) -> (Answer, Counts) {
+    fn call<S: Typed<D>, D: Element>(s: Settings, src: &[u8], dst: &mut [u8], keys: &[u8], targets: &[u8]) -> (Answer, Counts) {
         typed(s, view::<S>(src), view_mut::<D>(dst), &typed_entries(keys, targets))
     }
     match (s.from, s.to) {
@@ -425,7 +466,7 @@ pub fn slices(s: Settings, src: &[u8], keys: &[u8], targets: &[u8], dst: &mut [u
         s,
         (s, src, keys, targets, dst)
     );
-    result.map_or_else(|e| refusal(0, e), |()| Answer::CONVERTED)
+    result.map_or_else(|e| refusal(0, e), |()| Answer::default())
 }
 
 /// An element's bytes as a number, lowest byte first.

@@ -1,7 +1,7 @@
 //! The fixed list: a sample of the reference's answers, for the program `replay`.
 use driver::compare::whole_call;
 use driver::samples::{edges, Random};
-use driver::{all_settings, is_float, reference, width, Reference, Settings};
+use driver::{all_settings, is_float, reference, width, Answer, Reference, Settings};
 
 /// A map and elements that often meet it.
 pub struct Sample {
@@ -77,8 +77,16 @@ pub fn a_map(s: Settings, edge: &[Vec<u64>], round: usize, r: &mut Random) -> Sa
     Sample { keys, targets, elements }
 }
 
+/// The fields of a refusal in the list: the element counts of 4; position, value and ends of the others.
+fn fields(a: &Answer) -> [u64; 4] {
+    match a.number {
+        4 => [a.src_len, a.dst_len, 0, 0],
+        _ => [a.position, a.value, a.lowest, a.highest],
+    }
+}
+
 /// A case. Its head has 46 bytes: the section, the four codes, the lengths of source, destination, keys and targets (16 bits each), the
-/// number that is due and the four words (64 bits each); every number lowest byte first. Its body has the source, the keys, the targets, and
+/// number that is due and its four fields (64 bits each); every number lowest byte first. Its body has the source, the keys, the targets, and
 /// the destination that is due after the call. Before the call each byte of the destination is 0xee.
 fn case(out: &mut Vec<u8>, section: u8, s: Settings, src: &[u8], dst_len: usize, keys: &[u8], targets: &[u8]) {
     let (answer, after) = whole_call(s, src, &vec![0xee; dst_len], keys, targets);
@@ -88,8 +96,8 @@ fn case(out: &mut Vec<u8>, section: u8, s: Settings, src: &[u8], dst_len: usize,
         out.extend_from_slice(&(length as u16).to_le_bytes());
     }
     out.push(answer.number);
-    for w in answer.words {
-        out.extend_from_slice(&w.to_le_bytes());
+    for field in fields(&answer) {
+        out.extend_from_slice(&field.to_le_bytes());
     }
     for part in [src, keys, targets, &after] {
         out.extend_from_slice(part);
@@ -193,7 +201,7 @@ pub fn write(file: &str) {
         let patterns = telling(s.from);
         let mut reference_of = Reference::default();
         reference(s, &bytes_of(s.from, &patterns), &[], &[], &mut reference_of);
-        let refused: Vec<usize> = reference_of.refused.iter().map(|a| a.words[0] as usize).collect();
+        let refused: Vec<usize> = reference_of.refused.iter().map(|a| a.position as usize).collect();
         let (mut yes, mut no) = (Vec::new(), Vec::new());
         for (j, p) in patterns.iter().enumerate() {
             if refused.contains(&j) {

@@ -85,7 +85,7 @@ original!(
 fn proved(row: &Row, repeats: usize) -> f64 {
     let mut dst = vec![0u8; row.src.len() / width(row.s.from) * width(row.s.to)];
     best(repeats, || {
-        let a = ours(black_box(row.s), black_box(&row.src), black_box(&mut dst), &row.keys, &row.targets);
+        let (a, _) = ours(black_box(row.s), black_box(&row.src), black_box(&mut dst), &row.keys, &row.targets);
         assert_eq!(a.number, 0, "nothing is refused");
     })
 }
@@ -96,7 +96,7 @@ fn typed_call<S: Typed<D>, D: Element>(row: &Row, repeats: usize) -> f64 {
     let mut dst: Vec<D> = vec![D::read(&zero[..D::SIZE]); src.len()];
     let entries = typed_entries::<S, D>(&row.keys, &row.targets);
     best(repeats, || {
-        let a = typed(row.s, black_box(&src), black_box(&mut dst), &entries);
+        let (a, _) = typed(row.s, black_box(&src), black_box(&mut dst), &entries);
         assert_eq!(a.number, 0, "nothing is refused");
     })
 }

@@ -79,7 +79,7 @@ fn bytes_of(kind: u8, patterns: &[u64]) -> Vec<u8> {
 fn sorted(s: Settings, patterns: &[u64]) -> (Vec<u64>, Vec<u64>) {
     let mut r = Reference::default();
     reference(s, &bytes_of(s.from, patterns), &[], &[], &mut r);
-    let mut refused = r.refused.iter().map(|a| a.words[0] as usize).peekable();
+    let mut refused = r.refused.iter().map(|a| a.position as usize).peekable();
     let (mut yes, mut no) = (Vec::new(), Vec::new());
     for (i, p) in patterns.iter().enumerate() {
         if refused.next_if_eq(&i).is_some() {
