@@ -20,9 +20,9 @@ use Rattle.patterns.specs.Kind.{Kind, integer, binary, gridOf, lowest, highest,
 use Rattle.patterns.specs.Value.{Value, nan, inf, num, negative, valueOf}
 use Rattle.patterns.specs.Pattern.{patternOf, asF64}
 use Rattle.patterns.proofs.AnyKind.{sound}
-use Rattle.kinds.specs.Counts.{byPick}
-use Rattle.kinds.specs.declared.Fared.{Fared}
-use Rattle.kinds.specs.declared.Fared.the-variants.{Mapped, Exact, Rounded, Clamped, Wrapped}
+use Rattle.counts.specs.Counts.{byPick}
+use Rattle.counts.specs.declared.Fared.{Fared}
+use Rattle.counts.specs.declared.Fared.the-variants.{Mapped, Exact, Rounded, Clamped, Wrapped}
 use Rattle.kinds.specs.declared.OutOfRangeMode.{OutOfRangeMode}
 use Rattle.kinds.specs.declared.OutOfRangeMode.the-variants.{None, Clamp, Wrap}
 use Rattle.kinds.specs.declared.Lookup.{Lookup}

@@ -9,11 +9,11 @@ use lib.Dec.{T, eqb, lit≤}
 use borrow.Author.Tests.{eqb-true, eqb-false}
 use Rattle.patterns.specs.Kind.{WellFormed}
 use Rattle.kinds.specs.Answer.{numberOf, positionOf}
-use Rattle.kinds.specs.Counts.{placeOf, countOf}
+use Rattle.counts.specs.Counts.{placeOf, countOf}
 use Rattle.kinds.specs.declared.Answer.{Answer}
 use Rattle.kinds.specs.declared.Answer.the-variants as A
-use Rattle.kinds.specs.declared.Fared.{Fared}
-use Rattle.kinds.specs.declared.Fared.the-variants.{Mapped, Exact, Rounded, Clamped, Wrapped}
+use Rattle.counts.specs.declared.Fared.{Fared}
+use Rattle.counts.specs.declared.Fared.the-variants.{Mapped, Exact, Rounded, Clamped, Wrapped}
 use Rattle.kinds.specs.declared.Outcome.{Outcome}
 use Rattle.kinds.specs.declared.Outcome.the-variants.{Stored, NanOrInf, OutOfRange, FloatOutOfRange}
 use Rattle.cast_spec.specs.Chunk.{Inputs, callOf, outcomeAt, answerNext, answerFrom, answerOf, countsOf, convertedOf, faredAs, countBelow}

@@ -11,7 +11,7 @@ use lib.ListN.{length, drop}
 use lib.Seq.{drop-append-add, drop-drop}
 use Rattle.bytes_le.proofs.Places.{first-place, next-place}
 use Rattle.kinds.specs.declared.Answer.{Answer}
-use Rattle.kinds.specs.declared.Fared.{Fared}
+use Rattle.counts.specs.declared.Fared.{Fared}
 use Rattle.kinds.specs.declared.Outcome.the-variants.{FloatOutOfRange, NanOrInf, OutOfRange, Stored}
 use Rattle.kinds.specs.declared.Outcome.{Outcome}
 use Rattle.cast_spec.specs.Chunk.{Refuses, Reached, sw, dw, answerFrom, answerNext, bytesFrom, bytesNext, Inputs, answerOf, bytesWhole, callOf, codesListed, countsMeet, destinationOf, mapWhole, outcomeAt}

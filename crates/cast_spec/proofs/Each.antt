@@ -12,7 +12,7 @@ use Rattle.grid.proofs.Picked.{picked}
 use Rattle.patterns.specs.Kind.{Kind, integer, binary, gridOf, bits, lowest, highest, InRange, WellFormed}
 use Rattle.patterns.specs.Value.{Value, inf, num, negative, valueOf}
 use Rattle.grid.specs.Ternary.{ternaryOf}
-use Rattle.kinds.specs.Counts.{byPick}
+use Rattle.counts.specs.Counts.{byPick}
 use Rattle.kinds.specs.declared.OutOfRangeMode.{OutOfRangeMode}
 use Rattle.kinds.specs.declared.OutOfRangeMode.the-variants.{None, Clamp, Wrap}
 use Rattle.patterns.specs.Pattern.{patternOf, asF64}

@@ -10,7 +10,7 @@ use Rattle.grid.specs.declared.RoundingMode.{RoundingMode}
 use Rattle.patterns.specs.Kind.{Kind, integer, binary, gridOf}
 use Rattle.patterns.specs.Value.{Value, nan, inf, num, negative, valueOf}
 use Rattle.patterns.specs.Pattern.{asF64, patternOf}
-use Rattle.kinds.specs.Counts.{byPick}
+use Rattle.counts.specs.Counts.{byPick}
 use Rattle.kinds.specs.declared.OutOfRangeMode.{OutOfRangeMode}
 use Rattle.kinds.specs.declared.OutOfRangeMode.the-variants.{None, Clamp, Wrap}
 use Rattle.kinds.specs.declared.Outcome.the-variants.{Stored}

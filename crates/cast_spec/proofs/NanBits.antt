@@ -22,9 +22,9 @@ use Rattle.patterns.specs.Pattern.{quiet, nanPattern, asF64, asF64From}
 use Rattle.patterns.proofs.Floats.{nan-back}
 use Rattle.patterns.proofs.Integers.{no-integer-nan}
 use Rattle.kinds.specs.Codes.{kindOf, roundingOf, rangeOf}
-use Rattle.kinds.specs.declared.Counts.{Counts}
-use Rattle.kinds.specs.declared.Fared.{Fared}
-use Rattle.kinds.specs.declared.Fared.the-variants.{Mapped, Exact, Rounded, Clamped, Wrapped}
+use Rattle.counts.specs.declared.Counts.{Counts}
+use Rattle.counts.specs.declared.Fared.{Fared}
+use Rattle.counts.specs.declared.Fared.the-variants.{Mapped, Exact, Rounded, Clamped, Wrapped}
 use Rattle.kinds.specs.declared.OutOfRangeMode.{OutOfRangeMode}
 use Rattle.kinds.specs.declared.Lookup.{Lookup}
 use Rattle.kinds.specs.declared.Lookup.the-variants.{Found}

@@ -12,10 +12,10 @@ use lib.Seq.{drop-length}
 use Rattle.bytes_le.specs.Bytes.{patternAt}
 use Rattle.bytes_le.proofs.Unique.{AreBytes, one-chunk}
 use Rattle.kinds.specs.Answer.{numberOf, valuesOf, positionOf, outcomeValues}
-use Rattle.kinds.specs.Counts.{countOf}
+use Rattle.counts.specs.Counts.{countOf}
 use Rattle.kinds.specs.declared.Answer.{Answer}
-use Rattle.kinds.specs.declared.Counts.{Counts}
-use Rattle.kinds.specs.declared.Fared.{Fared}
+use Rattle.counts.specs.declared.Counts.{Counts}
+use Rattle.counts.specs.declared.Fared.{Fared}
 use Rattle.cast_spec.specs.Chunk.{Inputs, Call, callOf, outcomeAt, dw, codesListed, mapWhole, bytesWhole, countsMeet, convertedOf}
 use Rattle.cast_spec.specs.Counted.{Fares, HowMany, Counted}
 use Rattle.cast_spec.specs.Demand1.{ConvertedTo, Demand1}

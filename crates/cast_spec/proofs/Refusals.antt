@@ -4,7 +4,7 @@ use mathlib.Core.Bool.{true, false}
 use Prim.Native.Nat.{_/_}
 use lib.ListN.{length}
 use borrow.Author.Tests.{ne-eqb}
-use Rattle.kinds.specs.Counts.{unconverted}
+use Rattle.kinds.specs.Answer.{unconverted}
 use Rattle.kinds.specs.declared.Answer.the-variants as A
 use Rattle.cast_spec.specs.Chunk.{Inputs, sw, dw, codesListed, mapWhole, bytesWhole, callOf, answerOf, countsOf, destinationOf}
 use Rattle.cast_spec.specs.Contract.{Contract}

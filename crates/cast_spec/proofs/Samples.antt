@@ -12,9 +12,9 @@ use Rattle.patterns.specs.Float.{bitsMag}
 use Rattle.kinds.specs.Codes.{kindOf}
 use Rattle.patterns.specs.Value.{valueOf}
 use Rattle.patterns.specs.Kind.{Kind, f32, f64, lowest, highest}
-use Rattle.kinds.specs.Counts.{noCounts}
-use Rattle.kinds.specs.declared.Counts.{Counts}
-use Rattle.kinds.specs.declared.Fared.the-variants.{Mapped, Exact, Rounded, Clamped, Wrapped}
+use Rattle.counts.specs.Counts.{noCounts}
+use Rattle.counts.specs.declared.Counts.{Counts}
+use Rattle.counts.specs.declared.Fared.the-variants.{Mapped, Exact, Rounded, Clamped, Wrapped}
 use Rattle.kinds.specs.declared.OutOfRangeMode.{OutOfRangeMode}
 use Rattle.kinds.specs.declared.OutOfRangeMode.the-variants.{None, Clamp, Wrap}
 use Rattle.cast_spec.specs.Element.{Entry, beyond, outcomeOf}

@@ -8,10 +8,10 @@ use Rattle.bytes_le.specs.Bytes.{toLe, patternAt}
 use Rattle.patterns.specs.Kind.{width}
 use Rattle.patterns.specs.Value.{Value, valueOf}
 use Rattle.kinds.specs.Codes.{kindOf, roundingOf, rangeOf}
-use Rattle.kinds.specs.Counts.{placeOf}
-use Rattle.kinds.specs.declared.Counts.{Counts}
-use Rattle.kinds.specs.declared.Fared.{Fared}
-use Rattle.kinds.specs.declared.Fared.the-variants.{Mapped, Exact, Rounded, Clamped, Wrapped}
+use Rattle.counts.specs.Counts.{placeOf}
+use Rattle.counts.specs.declared.Counts.{Counts}
+use Rattle.counts.specs.declared.Fared.{Fared}
+use Rattle.counts.specs.declared.Fared.the-variants.{Mapped, Exact, Rounded, Clamped, Wrapped}
 use Rattle.kinds.specs.declared.Outcome.{Outcome}
 use Rattle.kinds.specs.declared.Outcome.the-variants.{Stored, NanOrInf, OutOfRange, FloatOutOfRange}
 use Rattle.kinds.specs.declared.Answer.{Answer}

@@ -8,11 +8,11 @@ use lib.IntN.{ℤ}
 use Rattle.grid.specs.Pick.{IsPick}
 use Rattle.patterns.specs.Kind.{gridOf, InRange}
 use Rattle.patterns.specs.Value.{Value, num, valueOf}
-use Rattle.kinds.specs.Counts.{countOf}
+use Rattle.counts.specs.Counts.{countOf}
 use Rattle.kinds.specs.declared.Answer.{Answer}
-use Rattle.kinds.specs.declared.Counts.{Counts}
-use Rattle.kinds.specs.declared.Fared.{Fared}
-use Rattle.kinds.specs.declared.Fared.the-variants.{Mapped, Exact, Rounded, Clamped, Wrapped}
+use Rattle.counts.specs.declared.Counts.{Counts}
+use Rattle.counts.specs.declared.Fared.{Fared}
+use Rattle.counts.specs.declared.Fared.the-variants.{Mapped, Exact, Rounded, Clamped, Wrapped}
 use Rattle.kinds.specs.declared.OutOfRangeMode.the-variants.{Clamp, Wrap}
 use Rattle.cast_spec.specs.Element.{Entry, matches}
 use Rattle.cast_spec.specs.Chunk.{Call, convertedOf}

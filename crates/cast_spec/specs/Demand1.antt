@@ -7,7 +7,7 @@ use Prim.Native.Nat.{ℕ, _*_, _/_, _%_, _^_, _≤_, _<_}
 use lib.ListN.{length, drop}
 use Rattle.bytes_le.specs.Bytes.{patternAt}
 use Rattle.kinds.specs.Answer.{numberOf, noValues, bothCounts, valuesOf, positionOf, outcomeNumber, outcomeValues}
-use Rattle.kinds.specs.declared.Fared.{Fared}
+use Rattle.counts.specs.declared.Fared.{Fared}
 use Rattle.kinds.specs.declared.Outcome.the-variants.{Stored}
 use Rattle.kinds.specs.declared.Answer.{Answer}
 use Rattle.cast_spec.specs.Chunk.{Inputs, callOf, outcomeAt, Reached, sw, dw, codesListed, mapWhole, bytesWhole, countsMeet}

@@ -10,11 +10,11 @@ use lib.Seq.{drop-drop}
 use Rattle.cast_spec.specs.Element.{outcomeOf}
 use Rattle.chunk_element.specs.declared.Settings.{Settings}
 use Rattle.cast_spec.proofs.Runs.{Run, one-more, count-le, refused-converted}
-use Rattle.kinds.specs.Counts.{placeOf, countOf, countsIn}
-use Rattle.kinds.specs.Tally.{noTally, counted, oneMoreAt, CountableAt}
-use Rattle.kinds.proofs.Tallies as tallies
-use Rattle.kinds.specs.declared.Counts.{Counts}
-use Rattle.kinds.specs.declared.Fared.{Fared}
+use Rattle.counts.specs.Counts.{placeOf, countOf, countsIn}
+use Rattle.counts.specs.Tally.{noTally, counted, oneMoreAt, CountableAt}
+use Rattle.counts.proofs.Tallies as tallies
+use Rattle.counts.specs.declared.Counts.{Counts}
+use Rattle.counts.specs.declared.Fared.{Fared}
 use Rattle.kinds.specs.declared.Answer.{Answer}
 use Rattle.chunk_element.specs.Settings.{settingsFor}
 use Rattle.chunk_element.specs.Place.{ConvertedAt, PlaceReady, refusedAnswer, storedAt}

@@ -5,7 +5,7 @@ ghost use Prim.Native.Nat.{_/_, _%_, _<_};
 ghost use lib.Dec.{eqb};
 ghost use Rattle.cast_spec.specs.Chunk.{inputs};
 ghost use Rattle.cast_spec.specs.Contract.{Contract};
-ghost use Rattle.kinds.specs.Counts.{unconverted};
+ghost use Rattle.kinds.specs.Answer.{unconverted};
 ghost use Rattle.chunk_element.specs.Settings.{settingsFor};
 ghost use Rattle.chunk.specs.Run.{settingsBy, RunReady, Ran};
 use chunk_element::Settings;
@@ -24,26 +24,26 @@ fn run(src: &[u8], dst: &mut [u8], keys: &[u8], targets: &[u8], s: Settings, n: 
     let mut i = 0;
     let mut input = 0;
     let mut output = 0;
-    let mut tally = kinds::no_tally();
-    let mut last = kinds::NO_ELEMENT;
+    let mut tally = counts::no_tally();
+    let mut last = counts::NO_ELEMENT;
     while i < n {
-        kinds::count_at(&mut tally, last);
+        counts::count_at(&mut tally, last);
         let r = chunk_element::convert_at(src, dst, keys, targets, s, input, output);
         let Fit::Pattern { pattern: _, fared } = r else {
             return Reply {
                 answer: chunk_element::refused_at(src, s, input, i, r),
-                counts: kinds::counts_of(tally),
+                counts: counts::counts_of(tally),
             };
         };
-        last = kinds::place(fared);
+        last = counts::place(fared);
         input += sw;
         output += dw;
         i += 1;
     }
-    kinds::count_at(&mut tally, last);
+    counts::count_at(&mut tally, last);
     Reply {
         answer: Answer::Converted,
-        counts: kinds::counts_of(tally),
+        counts: counts::counts_of(tally),
     }
 }
 
@@ -53,7 +53,7 @@ fn refused(answer: Answer) -> Reply
 {
     Reply {
         answer: answer,
-        counts: kinds::no_counts(),
+        counts: counts::no_counts(),
     }
 }
 

@@ -19,9 +19,9 @@ use Rattle.patterns.specs.Kind.{binary, f64}
 use Rattle.patterns.specs.Float.{infBits}
 use Rattle.patterns.specs.Pattern.{magBits, withSign}
 use Rattle.patterns.proofs.Floats.{mag-lt}
-use Rattle.kinds.specs.Counts.{byPick}
+use Rattle.counts.specs.Counts.{byPick}
 use Rattle.kinds.specs.Row.{floatFormat, FloatRow}
-use Rattle.kinds.specs.declared.Fared.{Fared}
+use Rattle.counts.specs.declared.Fared.{Fared}
 use Rattle.kinds.specs.declared.FloatFormat.{FloatFormat}
 use Rattle.kinds.specs.declared.OutOfRangeMode.{OutOfRangeMode}
 use Rattle.kinds.specs.declared.Fit.the-variants.{Pattern}

@@ -12,7 +12,7 @@ use Rattle.grid.proofs.Picked.{picked-pos}
 use Rattle.grid.proofs.Sides.{exact-is}
 use Rattle.patterns.specs.Kind.{f64}
 use Rattle.patterns.specs.Pattern.{magBits, nanPattern}
-use Rattle.kinds.specs.declared.Fared.the-variants.{Exact}
+use Rattle.counts.specs.declared.Fared.the-variants.{Exact}
 use Rattle.kinds.specs.declared.OutOfRangeMode.{OutOfRangeMode}
 use Rattle.kinds.specs.declared.Fit.the-variants.{Pattern}
 use Rattle.floats.specs.Form.{CanonicalClass, f64Of, finiteBits}

@@ -5,12 +5,12 @@ ghost use Rattle.kinds.specs.Row.{integerOf, floatOf, IntegerRow, FloatRow};
 ghost use Rattle.floats.specs.Form.{CanonicalClass};
 ghost use Rattle.narrowing.specs.Fit.{fitFloat};
 ghost use Rattle.conversions.specs.Fit.{fitInteger};
+use counts::Fared;
 use floats::Class;
 use floats::Float;
 use grid::RoundingMode;
 use grid::Ternary;
 use integers::Integer;
-use kinds::Fared;
 use kinds::Fit;
 use kinds::FloatFormat;
 use kinds::IntegerFormat;
@@ -82,7 +82,7 @@ pub fn convert_int_to_float(
         24 => narrowing::rebias_f32(rounded.bits, ternary, negative, range),
         _ => Fit::Pattern {
             pattern: floats::sign_bit(negative, 63) + rounded.bits,
-            fared: kinds::by_pick(ternary),
+            fared: counts::by_pick(ternary),
         },
     }
 }

@@ -19,10 +19,10 @@ use Rattle.patterns.specs.Kind.{highInt, Kind, integer, highest}
 use Rattle.patterns.specs.Pattern.{lowBits, patternOf}
 use Rattle.patterns.proofs.AnyKind.{lowest-in, whole-pattern}
 use Rattle.patterns.proofs.Integers.{lowIn}
-use Rattle.kinds.specs.Counts.{byPick}
+use Rattle.counts.specs.Counts.{byPick}
 use Rattle.kinds.specs.Row.{integerOf, IntegerRow}
-use Rattle.kinds.specs.declared.Fared.{Fared}
-use Rattle.kinds.specs.declared.Fared.the-variants.{Clamped, Wrapped}
+use Rattle.counts.specs.declared.Fared.{Fared}
+use Rattle.counts.specs.declared.Fared.the-variants.{Clamped, Wrapped}
 use Rattle.kinds.specs.declared.IntegerFormat.{IntegerFormat}
 use Rattle.kinds.specs.declared.OutOfRangeMode.{OutOfRangeMode}
 use Rattle.kinds.specs.declared.OutOfRangeMode.the-variants.{Clamp, None, Wrap}

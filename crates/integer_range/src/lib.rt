@@ -1,11 +1,11 @@
 // The range of an integer kind: a whole number is stored, clamped, wrapped or refused, by the range choice.
 ghost use mathlib.Core.Path.{_≡_};
 ghost use mathlib.Core.Bool.{cond};
-ghost use Rattle.kinds.specs.Counts.{byPick};
+ghost use Rattle.counts.specs.Counts.{byPick};
 ghost use Rattle.kinds.specs.Row.{integerOf, IntegerRow};
 ghost use Rattle.integer_range.specs.Range.{refusing, clamping, endMag, RangeApplied};
+use counts::Fared;
 use grid::Ternary;
-use kinds::Fared;
 use kinds::Fit;
 use kinds::IntegerFormat;
 use kinds::OutOfRangeMode;
@@ -52,7 +52,7 @@ fn fared(past: bool, clamp: bool, ternary: Ternary) -> Fared
             Fared::Wrapped
         };
     }
-    kinds::by_pick(ternary)
+    counts::by_pick(ternary)
 }
 
 // A whole number to an integer kind, by the range choice: its sign, its magnitude modulo 2^64, whether the magnitude exceeds 64 bits, and where the

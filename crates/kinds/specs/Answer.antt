@@ -1,10 +1,12 @@
 -- To be believed: the papers' number and values for each case of an answer, and of what one element comes to.
 use Prim.Native.Nat.{ℕ}
 use Rattle.patterns.specs.Pattern.{lowBits}
+use Rattle.counts.specs.Counts.{noCounts}
 use Rattle.kinds.specs.declared.Outcome.{Outcome}
 use Rattle.kinds.specs.declared.Outcome.the-variants as O
 use Rattle.kinds.specs.declared.Answer.{Answer}
 use Rattle.kinds.specs.declared.Answer.the-variants.{Converted, UnknownCode, BrokenMap, BrokenElement, LengthMismatch, NanOrInf, OutOfRange, FloatOutOfRange}
+use Rattle.kinds.specs.declared.Reply.{Reply}
 
 -- ---- the column "number" of the table "What the chunk call answers"; 0 where all is converted
 abbrev pub numberOf : Answer → ℕ
@@ -63,3 +65,7 @@ outcomeValues i (O.Stored b f) = noValues
 outcomeValues i (O.NanOrInf v) = elementValues i v 0 0
 outcomeValues i (O.OutOfRange v lo hi) = elementValues i v (lowBits 64 lo) hi
 outcomeValues i (O.FloatOutOfRange v lo hi) = elementValues i v lo hi
+
+-- ---- "Refusals 1 to 4 give five zeros."
+abbrev pub unconverted : Answer → Reply
+unconverted a = record { answer = a; counts = noCounts }

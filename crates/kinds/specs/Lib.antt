@@ -1,5 +1,3 @@
 pub mod Codes
 pub mod Row
 pub mod Answer
-pub mod Counts
-pub mod Tally

@@ -23,8 +23,8 @@ use Rattle.patterns.specs.Kind.{Kind, InRange, binary, f64}
 use Rattle.patterns.specs.Value.{negative}
 use Rattle.patterns.specs.Pattern.{infinity, magBits, nanPattern, patternOf, quiet, withSign}
 use Rattle.patterns.proofs.Floats.{abs-signed, bits-in-range, bits-past-range, mag-back, sign-is}
-use Rattle.kinds.specs.Counts.{byPick}
-use Rattle.kinds.specs.declared.Fared.the-variants.{Exact}
+use Rattle.counts.specs.Counts.{byPick}
+use Rattle.counts.specs.declared.Fared.the-variants.{Exact}
 use Rattle.kinds.specs.declared.OutOfRangeMode.{OutOfRangeMode}
 use Rattle.kinds.specs.declared.OutOfRangeMode.the-variants.{None, Clamp, Wrap}
 use Rattle.kinds.specs.declared.Outcome.{Outcome}

@@ -8,8 +8,8 @@ use Rattle.grid.specs.declared.Ternary.{Ternary}
 use Rattle.patterns.specs.Float.{infBits}
 use Rattle.patterns.specs.Kind.{Kind, integer, binary, f64}
 use Rattle.patterns.specs.Pattern.{infinity, nanPattern, withSign}
-use Rattle.kinds.specs.Counts.{byPick}
-use Rattle.kinds.specs.declared.Fared.the-variants.{Exact, Clamped}
+use Rattle.counts.specs.Counts.{byPick}
+use Rattle.counts.specs.declared.Fared.the-variants.{Exact, Clamped}
 use Rattle.kinds.specs.declared.OutOfRangeMode.{OutOfRangeMode}
 use Rattle.kinds.specs.declared.OutOfRangeMode.the-variants.{None, Clamp, Wrap}
 use Rattle.kinds.specs.declared.Fit.{Fit}

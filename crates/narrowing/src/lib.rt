@@ -7,13 +7,13 @@ ghost use Rattle.patterns.specs.Pattern.{quiet};
 ghost use Rattle.floats.specs.Form.{Canonical, CanonicalClass};
 ghost use Rattle.narrowing.specs.Format.{Narrower, FormatBits, Rebiasable, narrowed, rebiased};
 ghost use Rattle.narrowing.specs.Fit.{fitBits, fitFloat};
+use counts::Fared;
 use floats::Class;
 use floats::Float;
 use floats::Scaled;
 use grid::Rounded;
 use grid::RoundingMode;
 use grid::Ternary;
-use kinds::Fared;
 use kinds::Fit;
 use kinds::OutOfRangeMode;
 
@@ -69,7 +69,7 @@ fn fit_bits(
     if bits < infinity {
         return Fit::Pattern {
             pattern: sign + bits,
-            fared: kinds::by_pick(ternary),
+            fared: counts::by_pick(ternary),
         };
     }
     if let OutOfRangeMode::Clamp = range {

@@ -3,7 +3,7 @@ use mathlib.Core.List.{List}
 use mathlib.Core.Path.{_≡_, ap, ap₂, _∙_, subst}
 use Prim.Native.Nat.{ℕ}
 use Rattle.kinds.specs.declared.Answer.{Answer}
-use Rattle.kinds.specs.declared.Counts.{Counts}
+use Rattle.counts.specs.declared.Counts.{Counts}
 use Rattle.kinds.specs.declared.Reply.{Reply}
 use Rattle.kinds.specs.Answer.{numberOf}
 use Rattle.cast_spec.specs.Chunk.{Inputs, callOf, answerOf, resultAt}

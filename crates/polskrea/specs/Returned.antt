@@ -4,7 +4,7 @@ use mathlib.Core.List.{List, [], _∷_, _++_}
 use Prim.Native.Nat.{ℕ}
 use Rattle.kinds.specs.Answer.{numberOf, valuesOf}
 use Rattle.kinds.specs.declared.Answer.{Answer}
-use Rattle.kinds.specs.declared.Counts.{Counts}
+use Rattle.counts.specs.declared.Counts.{Counts}
 use Rattle.cast_spec.specs.Chunk.{Inputs, callOf, answerOf, countsOf, destinationOf, resultAt}
 use Rattle.cast_spec.specs.Counted.{Counted}
 use Rattle.cast_spec.specs.Demand1.{Demand1}

@@ -3,8 +3,8 @@ ghost use mathlib.Core.Path.{_≡_};
 ghost use Rattle.cast_spec.specs.Chunk.{inputs};
 ghost use Rattle.kinds.specs.Answer.{numberOf};
 ghost use Rattle.polskrea.specs.Returned.{valueFields, fieldsOf, Returned, version};
+use counts::Counts;
 use kinds::Answer;
-use kinds::Counts;
 use kinds::Reply;
 
 // The values of an answer: both counts of elements; position, value, lowest and highest of a refused one; 0 where the answer has no such value.

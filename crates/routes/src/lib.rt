@@ -2,8 +2,8 @@
 ghost use mathlib.Core.Path.{_≡_};
 ghost use Rattle.steps.specs.Steps.{stepped};
 ghost use Rattle.routes.specs.Route.{integerRoute, floatRoute, routeOf, sourceOf, targetOf, RouteRow, SourcePattern};
+use counts::Fared;
 use grid::RoundingMode;
-use kinds::Fared;
 use kinds::Fit;
 use kinds::FloatFormat;
 use kinds::Format;

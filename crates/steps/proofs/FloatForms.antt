@@ -11,7 +11,7 @@ use Rattle.patterns.specs.Value.{Value, nan, inf, num, negative, valueOf}
 use Rattle.patterns.specs.Pattern.{asF64From, infinity, nanPattern}
 use Rattle.patterns.proofs.Floats.{infinity-sign}
 use Rattle.kinds.specs.declared.OutOfRangeMode.{OutOfRangeMode}
-use Rattle.kinds.specs.declared.Fared.the-variants.{Exact}
+use Rattle.counts.specs.declared.Fared.the-variants.{Exact}
 use Rattle.kinds.specs.declared.Fit.the-variants.{Pattern}
 use Rattle.cast_spec.specs.Element.{converted}
 use Rattle.floats.specs.Form.{classFor, f64Of, floatOf, scaledOf}

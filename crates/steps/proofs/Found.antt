@@ -2,7 +2,7 @@
 use mathlib.Core.Path.{_≡_, refl, sym, ap}
 use Prim.Native.Nat.{ℕ}
 use Rattle.kinds.specs.declared.Fit.{Fit}
-use Rattle.kinds.specs.declared.Fared.the-variants.{Mapped}
+use Rattle.counts.specs.declared.Fared.the-variants.{Mapped}
 use Rattle.kinds.specs.declared.Fit.the-variants.{Pattern}
 use Rattle.kinds.specs.declared.Lookup.{Lookup}
 use Rattle.kinds.specs.declared.Lookup.the-variants.{Found, Missing}

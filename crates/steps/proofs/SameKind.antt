@@ -19,8 +19,8 @@ use Rattle.patterns.proofs.Floats.{abs-signed, infinity-bits, infinity-sign, nu
 use Rattle.kinds.specs.declared.OutOfRangeMode.{OutOfRangeMode}
 use Rattle.grid.specs.declared.Ternary.{Ternary}
 use Rattle.grid.proofs.Sides.{exact-is}
-use Rattle.kinds.specs.Counts.{byPick}
-use Rattle.kinds.specs.declared.Fared.the-variants.{Exact}
+use Rattle.counts.specs.Counts.{byPick}
+use Rattle.counts.specs.declared.Fared.the-variants.{Exact}
 use Rattle.kinds.specs.declared.Outcome.the-variants.{Stored}
 use Rattle.cast_spec.specs.Element.{Settings, converted, ranged}
 use Rattle.integers.specs.Magnitude.{magnitudeOf}

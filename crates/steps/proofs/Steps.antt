@@ -12,7 +12,7 @@ use Rattle.kinds.specs.declared.Format.{Format}
 use Rattle.kinds.specs.declared.Format.the-variants.{Integer, Float}
 use Rattle.kinds.specs.declared.Lookup.{Lookup}
 use Rattle.kinds.specs.declared.OutOfRangeMode.{OutOfRangeMode}
-use Rattle.kinds.specs.declared.Fared.the-variants.{Exact}
+use Rattle.counts.specs.declared.Fared.the-variants.{Exact}
 use Rattle.kinds.specs.declared.Fit.the-variants.{Pattern}
 use Rattle.floats.specs.Form as form
 use Rattle.floats.specs.declared.Float as F

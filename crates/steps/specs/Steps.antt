@@ -5,7 +5,7 @@ use Rattle.patterns.specs.Kind.{Kind}
 use Rattle.kinds.specs.declared.Lookup.{Lookup}
 use Rattle.kinds.specs.declared.Lookup.the-variants.{Found, Missing}
 use Rattle.kinds.specs.declared.OutOfRangeMode.{OutOfRangeMode}
-use Rattle.kinds.specs.declared.Fared.the-variants.{Mapped}
+use Rattle.counts.specs.declared.Fared.the-variants.{Mapped}
 use Rattle.kinds.specs.declared.Fit.{Fit}
 use Rattle.kinds.specs.declared.Fit.the-variants.{Pattern}
 use Rattle.cast_spec.specs.Fit.{fitOf, unmapped}

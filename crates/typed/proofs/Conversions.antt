@@ -49,12 +49,12 @@ use denote.Triple.Statement.{Contract, Triple}
 use Rattle.patterns.specs.Kind.{Kind, bits}
 use Rattle.patterns.specs.Value.{valueOf}
 use Rattle.kinds.specs.declared.Answer.{Answer}
-use Rattle.kinds.specs.declared.Counts.{Counts}
+use Rattle.counts.specs.declared.Counts.{Counts}
 use Rattle.kinds.specs.declared.Lookup.{Lookup}
 use Rattle.kinds.specs.declared.Reply.{Reply}
 use Rattle.kinds.specs.Codes.{kindOf}
-use Rattle.kinds.specs.Counts.{countsIn}
-use Rattle.kinds.specs.Tally.{noTally, Countable}
+use Rattle.counts.specs.Counts.{countsIn}
+use Rattle.counts.specs.Tally.{noTally, Countable}
 use Rattle.kinds.proofs.Reply as R
 use Rattle.kinds.proofs.Reply.Laws as R′
 use Rattle.kinds.proofs.Lookup as F

@@ -11,7 +11,7 @@ use denote.Builtin as B
 use Rattle.bytes_le.specs.Bytes.{toLe}
 use Rattle.patterns.specs.Pattern.{nanPattern}
 use Rattle.patterns.specs.Kind.{f64}
-use Rattle.kinds.specs.declared.Fared.{Fared}
+use Rattle.counts.specs.declared.Fared.{Fared}
 use Rattle.kinds.specs.declared.Outcome.the-variants.{Stored}
 use Rattle.cast_spec.specs.Element.{outcomeOf}
 use Rattle.typed_values.proofs.Signed.{again}

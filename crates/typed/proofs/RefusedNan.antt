@@ -18,8 +18,8 @@ use Rattle.patterns.specs.Pattern.{patternOf, infinity, nanPattern, asF64, asF6
 use Rattle.patterns.proofs.Floats.{inf-back}
 use Rattle.patterns.proofs.Ieee.{kindFor}
 use Rattle.kinds.specs.Codes.{kindOf}
-use Rattle.kinds.specs.Counts.{byPick}
-use Rattle.kinds.specs.declared.Fared.{Fared}
+use Rattle.counts.specs.Counts.{byPick}
+use Rattle.counts.specs.declared.Fared.{Fared}
 use Rattle.kinds.specs.declared.OutOfRangeMode.{OutOfRangeMode}
 use Rattle.kinds.specs.declared.OutOfRangeMode.the-variants.{None, Clamp, Wrap}
 use Rattle.kinds.specs.declared.Lookup.{Lookup}

@@ -7,9 +7,9 @@ use types.Run.{OneOf}
 use denote.Enum.Declared.{tagOf}
 use Rattle.patterns.specs.Pattern.{asF64}
 use Rattle.kinds.specs.Codes.{kindOf}
-use Rattle.kinds.specs.Tally.{Tallied}
+use Rattle.counts.specs.Tally.{Tallied}
 use Rattle.kinds.specs.declared.Answer.the-variants.{Converted}
-use Rattle.kinds.specs.declared.Fared.{Fared}
+use Rattle.counts.specs.declared.Fared.{Fared}
 use Rattle.kinds.specs.declared.Fit.{Fit}
 use Rattle.kinds.specs.declared.Fit.the-variants.{Pattern}
 use Rattle.kinds.specs.declared.Lookup.{Lookup}

@@ -20,8 +20,8 @@ use Rattle.patterns.specs.Pattern.{patternOf, infinity, nanPattern, asF64}
 use Rattle.patterns.proofs.Floats.{inf-back, inf-fits}
 use Rattle.patterns.specs.Value.{Value, nan, inf, num, negative, valueOf}
 use Rattle.patterns.proofs.AnyKind.{sound, sign-of, pick-sign, pattern-back, pattern-fits}
-use Rattle.kinds.specs.Counts.{byPick}
-use Rattle.kinds.specs.declared.Fared.{Fared}
+use Rattle.counts.specs.Counts.{byPick}
+use Rattle.counts.specs.declared.Fared.{Fared}
 use Rattle.kinds.specs.declared.OutOfRangeMode.{OutOfRangeMode}
 use Rattle.kinds.specs.declared.OutOfRangeMode.the-variants.{None, Clamp, Wrap}
 use Rattle.kinds.specs.declared.Lookup.the-variants.{Found}

@@ -13,11 +13,11 @@ use Rattle.bytes_le.specs.Bytes.{toLe}
 use Rattle.grid.specs.declared.RoundingMode.{RoundingMode}
 use Rattle.patterns.specs.Kind.{bits, width}
 use Rattle.patterns.specs.Value.{valueOf}
-use Rattle.kinds.specs.Counts.{noCounts, countOf, countsIn}
-use Rattle.kinds.specs.Tally.{noTally, counted, Countable}
+use Rattle.counts.specs.Counts.{noCounts, countOf, countsIn}
+use Rattle.counts.specs.Tally.{noTally, counted, Countable}
 use Rattle.kinds.specs.declared.Answer.{Answer}
-use Rattle.kinds.specs.declared.Counts.{Counts}
-use Rattle.kinds.specs.declared.Fared.{Fared}
+use Rattle.counts.specs.declared.Counts.{Counts}
+use Rattle.counts.specs.declared.Fared.{Fared}
 use Rattle.kinds.specs.declared.Reply.{Reply}
 use Rattle.kinds.specs.declared.OutOfRangeMode.{OutOfRangeMode}
 use Rattle.kinds.specs.declared.Lookup.{Lookup}

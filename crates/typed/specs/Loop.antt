@@ -4,7 +4,7 @@ use mathlib.Core.List.{List}
 use Prim.Native.Nat.{ℕ, _+_}
 use lib.ListN.{set}
 use Rattle.kinds.specs.Codes.{kindOf}
-use Rattle.kinds.specs.Tally.{Tallied}
+use Rattle.counts.specs.Tally.{Tallied}
 use Rattle.kinds.specs.declared.Lookup.{Lookup}
 use Rattle.kinds.specs.declared.Outcome.{Outcome}
 use Rattle.kinds.specs.declared.Outcome.the-variants.{Stored, NanOrInf, OutOfRange, FloatOutOfRange}

@@ -6,13 +6,13 @@ ghost use lib.ListN.{length};
 ghost use Rattle.typed_values.specs.Bits.{f64Bits, f32Bits, i64Bits, u8Bits, i32Bits, u8Of, i32Of, f32Of};
 ghost use Rattle.typed_entries.specs.Entries.{f64U8, f64I32, f32U8, f64F32, i64F32};
 ghost use Rattle.typed.specs.Typed.{TypedContract};
-ghost use Rattle.kinds.specs.Tally.{Countable};
+ghost use Rattle.counts.specs.Tally.{Countable};
 ghost use Rattle.typed.specs.Loop.{outcomeFor, nextState, storedIn, TalliedBy};
+use counts::Tally;
 use kinds::Fit;
 use kinds::Format;
 use kinds::Lookup;
 use kinds::Reply;
-use kinds::Tally;
 use typed_entries::Entry;
 use typed_entries::EntryF32U8;
 use typed_entries::EntryF64I32;
@@ -44,7 +44,7 @@ fn step_f64_u8(src: &[f64], dst: &mut [u8], s: State, f: Lookup, tally: &mut Tal
     let x = floats::read_f64(s.x);
     let fit = steps::step_float_to_int(x, f, kinds::U8, rounding, range);
     if let Fit::Pattern { pattern, fared } = fit {
-        kinds::count(tally, fared);
+        counts::count(tally, fared);
         dst[at] = typed_values::u8_of(pattern);
         return typed_states::state_f64(src, at + 1, rounding, range);
     }
@@ -68,7 +68,7 @@ pub fn convert_f64_to_u8(
     ensures { λ r. ⌜ TypedContract 9 4 (map f64Bits (now (src .entry))) (map u8Bits (now (dst .entry))) (map f64U8 (now (entries .entry))) rounding range r (map u8Bits (now (dst .exit))) ⌝ }
 {
     let mut s = typed_states::start_f64(src, dst.len(), rounding, range);
-    let mut tally = kinds::no_tally();
+    let mut tally = counts::no_tally();
     while s.more {
         let f = typed_entries::lookup_f64_u8(entries, s.x);
         s = step_f64_u8(src, dst, s, f, &mut tally);
@@ -102,7 +102,7 @@ fn step_f64_i32(src: &[f64], dst: &mut [i32], s: State, f: Lookup, tally: &mut T
     let x = floats::read_f64(s.x);
     let fit = steps::step_float_to_int(x, f, kinds::I32, rounding, range);
     if let Fit::Pattern { pattern, fared } = fit {
-        kinds::count(tally, fared);
+        counts::count(tally, fared);
         dst[at] = typed_values::i32_of(pattern);
         return typed_states::state_f64(src, at + 1, rounding, range);
     }
@@ -126,7 +126,7 @@ pub fn convert_f64_to_i32(
     ensures { λ r. ⌜ TypedContract 9 2 (map f64Bits (now (src .entry))) (map i32Bits (now (dst .entry))) (map f64I32 (now (entries .entry))) rounding range r (map i32Bits (now (dst .exit))) ⌝ }
 {
     let mut s = typed_states::start_f64(src, dst.len(), rounding, range);
-    let mut tally = kinds::no_tally();
+    let mut tally = counts::no_tally();
     while s.more {
         let f = typed_entries::lookup_f64_i32(entries, s.x);
         s = step_f64_i32(src, dst, s, f, &mut tally);
@@ -160,7 +160,7 @@ fn step_f32_u8(src: &[f32], dst: &mut [u8], s: State, f: Lookup, tally: &mut Tal
     let x = floats::read_f32(s.x as u32);
     let fit = steps::step_float_to_int(x, f, kinds::U8, rounding, range);
     if let Fit::Pattern { pattern, fared } = fit {
-        kinds::count(tally, fared);
+        counts::count(tally, fared);
         dst[at] = typed_values::u8_of(pattern);
         return typed_states::state_f32(src, at + 1, rounding, range);
     }
@@ -184,7 +184,7 @@ pub fn convert_f32_to_u8(
     ensures { λ r. ⌜ TypedContract 8 4 (map f32Bits (now (src .entry))) (map u8Bits (now (dst .entry))) (map f32U8 (now (entries .entry))) rounding range r (map u8Bits (now (dst .exit))) ⌝ }
 {
     let mut s = typed_states::start_f32(src, dst.len(), rounding, range);
-    let mut tally = kinds::no_tally();
+    let mut tally = counts::no_tally();
     while s.more {
         let f = typed_entries::lookup_f32_u8(entries, s.x);
         s = step_f32_u8(src, dst, s, f, &mut tally);
@@ -218,7 +218,7 @@ fn step_f64_f32(src: &[f64], dst: &mut [f32], s: State, f: Lookup, tally: &mut T
     let x = floats::read_f64(s.x);
     let fit = steps::step_float_to_float(x, f, kinds::F32, rounding, range);
     if let Fit::Pattern { pattern, fared } = fit {
-        kinds::count(tally, fared);
+        counts::count(tally, fared);
         dst[at] = typed_values::f32_of(pattern);
         return typed_states::state_f64(src, at + 1, rounding, range);
     }
@@ -242,7 +242,7 @@ pub fn convert_f64_to_f32(
     ensures { λ r. ⌜ TypedContract 9 8 (map f64Bits (now (src .entry))) (map f32Bits (now (dst .entry))) (map f64F32 (now (entries .entry))) rounding range r (map f32Bits (now (dst .exit))) ⌝ }
 {
     let mut s = typed_states::start_f64(src, dst.len(), rounding, range);
-    let mut tally = kinds::no_tally();
+    let mut tally = counts::no_tally();
     while s.more {
         let f = typed_entries::lookup_f64_f32(entries, s.x);
         s = step_f64_f32(src, dst, s, f, &mut tally);
@@ -276,7 +276,7 @@ fn step_i64_f32(src: &[i64], dst: &mut [f32], s: State, f: Lookup, tally: &mut T
     let x = integers::int_magnitude(s.x, true, 64);
     let fit = steps::step_int_to_float(x, f, kinds::F32, rounding, range);
     if let Fit::Pattern { pattern, fared } = fit {
-        kinds::count(tally, fared);
+        counts::count(tally, fared);
         dst[at] = typed_values::f32_of(pattern);
         return typed_states::state_i64(src, at + 1, rounding, range);
     }
@@ -300,7 +300,7 @@ pub fn convert_i64_to_f32(
     ensures { λ r. ⌜ TypedContract 3 8 (map i64Bits (now (src .entry))) (map f32Bits (now (dst .entry))) (map i64F32 (now (entries .entry))) rounding range r (map f32Bits (now (dst .exit))) ⌝ }
 {
     let mut s = typed_states::start_i64(src, dst.len(), rounding, range);
-    let mut tally = kinds::no_tally();
+    let mut tally = counts::no_tally();
     while s.more {
         let f = typed_entries::lookup_i64_f32(entries, s.x);
         s = step_i64_f32(src, dst, s, f, &mut tally);

@@ -1,6 +1,6 @@
 // Typed samples through each typed call. Each line is the pair, the rounding and range codes, the answer's number, the position of a refusal, the five counts, and
 // the patterns of the destination's elements.
-use kinds::Counts;
+use counts::Counts;
 use kinds::Reply;
 use libc::STDOUT_FILENO;
 use typed_entries::Entry;

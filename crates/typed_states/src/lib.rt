@@ -3,14 +3,14 @@ ghost use mathlib.Core.Path.{_≡_};
 ghost use mathlib.Core.List.{map};
 ghost use Rattle.cast_spec.specs.Chunk.{answerNext};
 ghost use Rattle.typed_values.specs.Bits.{f64Bits, f32Bits, i64Bits};
-ghost use Rattle.kinds.specs.Counts.{countsIn};
+ghost use Rattle.counts.specs.Counts.{countsIn};
 ghost use Rattle.typed_states.specs.States.{checkOf, stateAt, startOf, going, stopped};
+use counts::Tally;
 use grid::RoundingMode;
 use kinds::Answer;
 use kinds::OutOfRangeMode;
 use kinds::Outcome;
 use kinds::Reply;
-use kinds::Tally;
 
 // What the loop of a typed call carries: whether an element is to be converted, its position and its pattern, the answer once the loop ends,
 // and what the call's codes say.
@@ -88,7 +88,7 @@ pub fn reply_of(s: State, tally: Tally) -> Reply
     let answer = s.answer;
     Reply {
         answer: answer,
-        counts: kinds::counts_of(tally),
+        counts: counts::counts_of(tally),
     }
 }
 

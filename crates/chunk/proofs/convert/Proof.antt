@@ -5,7 +5,7 @@ use Prim.Native.Nat.{_/_, _%_, _<_}
 use lib.Dec.{eqb}
 use lib.ListN.{length}
 use denote.Ref.{now}
-use Rattle.kinds.specs.Counts.{unconverted}
+use Rattle.kinds.specs.Answer.{unconverted}
 use Rattle.kinds.specs.declared.Answer.the-variants as A
 use Rattle.kinds.specs.declared.Reply.{Reply}
 use Rattle.cast_spec.specs.Chunk.{Inputs, inputs, codesListed, mapWhole, bytesWhole, sw, dw}

@@ -1,7 +1,7 @@
 -- `chunk::refused` meets its contract: no element is counted.
 use mathlib.Core.Path.{ap}
 use borrow.Author.Needs.{needs}
-use Rattle.kinds.specs.declared.Counts.{Counts}
+use Rattle.counts.specs.declared.Counts.{Counts}
 use Rattle.kinds.specs.declared.Reply.{Reply}
 use Rattle.chunk.proofs.refused.Statement.{statement}
 use Rattle.chunk.proofs.refused.Tie as tie

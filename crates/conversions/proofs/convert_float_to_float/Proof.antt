@@ -4,7 +4,7 @@ use Prim.Native.Nat.{ℕ}
 use borrow.Author.Needs.{needs}
 use Rattle.kinds.specs.Row.{floatOf}
 use Rattle.kinds.specs.declared.FloatFormat.{FloatFormat}
-use Rattle.kinds.specs.declared.Fared.the-variants.{Exact}
+use Rattle.counts.specs.declared.Fared.the-variants.{Exact}
 use Rattle.kinds.specs.declared.Fit.the-variants.{Pattern}
 use Rattle.narrowing.specs.Fit.{fitFloat}
 use Rattle.kinds.proofs.FloatRows.{single, double}

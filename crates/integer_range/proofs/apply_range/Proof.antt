@@ -4,8 +4,8 @@ use mathlib.Core.Bool.{Bool, cond, _&&_}
 use Prim.Native.Nat.{ℕ}
 use Rattle.grid.specs.Round.{signed}
 use Rattle.patterns.specs.Pattern.{lowBits}
-use Rattle.kinds.specs.Counts.{byPick}
-use Rattle.kinds.specs.declared.Fared.the-variants.{Clamped, Wrapped}
+use Rattle.counts.specs.Counts.{byPick}
+use Rattle.counts.specs.declared.Fared.the-variants.{Clamped, Wrapped}
 use Rattle.integer_range.proofs.Range.{out, refused-past, stored-kept}
 use borrow.Author.Needs.{needs}
 use Rattle.integer_range.proofs.apply_range.Statement.{statement}

@@ -8,7 +8,7 @@ use borrow.Author.Needs.{needs}
 use Rattle.patterns.specs.Float.{infBits}
 use Rattle.patterns.specs.Pattern.{withSign}
 use Rattle.patterns.proofs.Floats.{inf-lt}
-use Rattle.kinds.specs.declared.Fared.the-variants.{Clamped}
+use Rattle.counts.specs.declared.Fared.the-variants.{Clamped}
 use Rattle.kinds.specs.declared.OutOfRangeMode.the-variants.{Clamp}
 use Rattle.kinds.specs.declared.Fit.the-variants.{Pattern}
 use Rattle.floats.proofs.Signs.{signed-sum, signed-fits}

@@ -7,7 +7,7 @@ use borrow.Author.Needs.{needs}
 use Rattle.grid.specs.declared.Rounded.{Rounded}
 use Rattle.patterns.specs.Pattern.{withSign}
 use Rattle.patterns.proofs.Floats.{inf-lt, nan-lt}
-use Rattle.kinds.specs.declared.Fared.the-variants.{Exact}
+use Rattle.counts.specs.declared.Fared.the-variants.{Exact}
 use Rattle.kinds.specs.declared.Fit.the-variants.{Pattern}
 use Rattle.floats.specs.Form.{CanonicalClass}
 use Rattle.floats.specs.declared.Class.the-variants.{NotANumber}

@@ -4,11 +4,9 @@ use Prim.Native.Nat.{ℕ}
 use lib.ListN.{getD}
 use Rattle.grid.specs.declared.Ternary.{Ternary}
 use Rattle.grid.specs.declared.Ternary.the-variants as T
-use Rattle.kinds.specs.declared.Fared.{Fared}
-use Rattle.kinds.specs.declared.Fared.the-variants.{Mapped, Exact, Rounded, Clamped, Wrapped}
-use Rattle.kinds.specs.declared.Answer.{Answer}
-use Rattle.kinds.specs.declared.Counts.{Counts}
-use Rattle.kinds.specs.declared.Reply.{Reply}
+use Rattle.counts.specs.declared.Fared.{Fared}
+use Rattle.counts.specs.declared.Fared.the-variants.{Mapped, Exact, Rounded, Clamped, Wrapped}
+use Rattle.counts.specs.declared.Counts.{Counts}
 
 -- "any other as exact or rounded by its pick"
 abbrev pub byPick : Ternary → Fared
@@ -26,10 +24,6 @@ placeOf Wrapped = 4
 
 abbrev pub noCounts : Counts
 noCounts = record { mapped = 0; exact = 0; rounded = 0; clamped = 0; wrapped = 0 }
-
--- "Refusals 1 to 4 give five zeros."
-abbrev pub unconverted : Answer → Reply
-unconverted a = record { answer = a; counts = noCounts }
 
 abbrev pub countOf : Fared → Counts → ℕ
 countOf Mapped c = c .mapped

@@ -3,10 +3,10 @@ use mathlib.Core.Path.{_≡_}
 use mathlib.Core.List.{List, [], _∷_}
 use Prim.Native.Nat.{ℕ, suc, _+_, _^_, _<_}
 use lib.ListN.{length, getD, set}
-use Rattle.kinds.specs.Counts.{countOf, countsIn}
-use Rattle.kinds.specs.declared.Counts.{Counts}
-use Rattle.kinds.specs.declared.Fared.{Fared}
-use Rattle.kinds.specs.declared.Fared.the-variants.{Mapped, Exact, Rounded, Clamped, Wrapped}
+use Rattle.counts.specs.Counts.{countOf, countsIn}
+use Rattle.counts.specs.declared.Counts.{Counts}
+use Rattle.counts.specs.declared.Fared.{Fared}
+use Rattle.counts.specs.declared.Fared.the-variants.{Mapped, Exact, Rounded, Clamped, Wrapped}
 
 abbrev pub noTally : List ℕ
 noTally = 0 ∷ 0 ∷ 0 ∷ 0 ∷ 0 ∷ 0 ∷ []
