@@ -14,7 +14,8 @@ use Rattle.cast_spec.proofs.Contract.{contract}
 use Rattle.kinds.specs.Codes.{kindOf, rangeOf, roundingOf}
 use Rattle.chunk_element.specs.declared.Settings.{Settings}
 use Rattle.chunk_element.specs.Settings.{MapReady, Ready, settingsFor}
-use Rattle.chunk.specs.Run.{RunReady, outcomes, settingsBy, Ran}
+use Rattle.chunk_run.specs.Run.{RunReady, outcomes, Ran}
+use Rattle.chunk.specs.Settings.{settingsBy}
 use Rattle.kinds.specs.declared.Answer.{Answer}
 use Rattle.kinds.specs.declared.Reply.{Reply}
 use Rattle.kinds.specs.declared.KindRow.{KindRow}

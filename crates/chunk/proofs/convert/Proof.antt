@@ -11,7 +11,8 @@ use Rattle.kinds.specs.declared.Reply.{Reply}
 use Rattle.cast_spec.specs.Chunk.{Inputs, inputs, codesListed, mapWhole, bytesWhole, sw, dw}
 use Rattle.cast_spec.specs.Contract.{Contract}
 use Rattle.chunk_element.specs.Settings.{settingsFor}
-use Rattle.chunk.specs.Run.{settingsBy, RunReady, Ran}
+use Rattle.chunk_run.specs.Run.{RunReady, Ran}
+use Rattle.chunk.specs.Settings.{settingsBy}
 use Rattle.chunk_element.specs.declared.Settings.{Settings}
 use Rattle.cast_spec.proofs.Widths.{width-pos}
 use Rattle.cast_spec.proofs.Refusals.{unknown, broken-map, broken-element, mismatch}

@@ -1,35 +1,16 @@
--- Internal: the settings of a call's codes, and a run of positions.
+-- Internal: a run of the first n positions.
 use mathlib.Core.Path.{_≡_}
 use mathlib.Core.List.{List}
-use Prim.Native.Nat.{ℕ, _*_, _/_, _≤_}
+use Prim.Native.Nat.{ℕ, _*_, _≤_}
 use lib.ListN.{length}
 use Rattle.bytes_le.specs.Bytes.{patternAt}
-use Rattle.patterns.specs.Kind.{width}
-use Rattle.kinds.specs.Codes.{kindOf, roundingOf, rangeOf}
-use Rattle.kinds.specs.Row.{formatOf}
 use Rattle.kinds.specs.declared.Outcome.{Outcome}
 use Rattle.kinds.specs.declared.Reply.{Reply}
 use Rattle.cast_spec.specs.Element as E
 use Rattle.cast_spec.specs.Element.{outcomeOf}
 use Rattle.cast_spec.specs.Chunk.{answerFrom, bytesFrom, convertedOf, countsBelow}
-use Rattle.routes.specs.Route.{routeOf}
 use Rattle.chunk_element.specs.declared.Settings.{Settings}
 use Rattle.chunk_element.specs.Settings.{MapReady}
-
--- the settings of the codes, where the map has so many bytes of keys
-abbrev pub settingsBy : ℕ → ℕ → ℕ → ℕ → ℕ → Settings
-settingsBy from to rounding range keys = record {
-  source = formatOf (kindOf from);
-  target = formatOf (kindOf to);
-  route = routeOf (formatOf (kindOf from)) (formatOf (kindOf to));
-  rounding = roundingOf rounding;
-  range = rangeOf range;
-  sw = width (kindOf from);
-  dw = width (kindOf to);
-  entries = keys / width (kindOf from);
-}
-
--- ---- the first n positions
 
 pub record RunReady (s : Settings) (keys targets src dst : List ℕ) (n : ℕ) : Type 0 where
   pub map : MapReady s keys targets

@@ -1,4 +1,4 @@
--- `chunk::run` meets its contract: the loop's invariant is that what is done and what is left make the whole run.
+-- `chunk_run::run` meets its contract: the loop's invariant is that what is done and what is left make the whole run.
 use mathlib.Core.Path.{_≡_, _∙_}
 use Prim.Native.Nat.{_+_, _-_, _≤_}
 use native.Mathlib.Omega.{arith}
@@ -8,11 +8,11 @@ use borrow.Author.Needs.{needs}
 use Rattle.kinds.specs.declared.Outcome.{Outcome}
 use Rattle.cast_spec.specs.Fit.{fitOf}
 use Rattle.chunk_element.specs.Settings.{settingsFor}
-use Rattle.chunk.specs.Run.{outcomes}
+use Rattle.chunk_run.specs.Run.{outcomes}
 use Rattle.cast_spec.proofs.Outcomes.{refuses}
-use Rattle.chunk.proofs.Loop.{At, starts, ends, fit-is, stops, goes-on, source-end, target-end, turn-asks, refused-answer}
-use Rattle.chunk.proofs.run.Statement.{statement}
-use Rattle.chunk.proofs.run.Tie as tie
+use Rattle.chunk_run.proofs.Loop.{At, starts, ends, fit-is, stops, goes-on, source-end, target-end, turn-asks, refused-answer}
+use Rattle.chunk_run.proofs.run.Statement.{statement}
+use Rattle.chunk_run.proofs.run.Tie as tie
 
 abbrev Inv-loop : tie.InvT-loop
 Inv-loop src dst₀ keys targets s n sw dw i₀ input₀ output₀ tally₀ last₀ dst i input output tally last = At (settingsFor s keys targets) (s .sw) (s .dw) src dst₀ n i input output dst tally last

@@ -18,7 +18,7 @@ use Rattle.counts.specs.declared.Fared.{Fared}
 use Rattle.kinds.specs.declared.Answer.{Answer}
 use Rattle.chunk_element.specs.Settings.{settingsFor}
 use Rattle.chunk_element.specs.Place.{ConvertedAt, PlaceReady, refusedAnswer, storedAt}
-use Rattle.chunk.specs.Run.{RunReady, Ran, outcomes}
+use Rattle.chunk_run.specs.Run.{RunReady, Ran, outcomes}
 use Rattle.kinds.specs.declared.Outcome.{Outcome}
 use Rattle.kinds.specs.declared.Outcome.the-variants.{Stored}
 use Rattle.kinds.specs.declared.Fit.{Fit}
