@@ -1,74 +1,9 @@
 // The library's calls for C and for Rust: the chunk call over bytes, and the version.
 ghost use mathlib.Core.Path.{_≡_};
 ghost use Rattle.cast_spec.specs.Chunk.{inputs};
-ghost use Rattle.kinds.specs.Answer.{numberOf};
-ghost use Rattle.polskrea.specs.Returned.{valueFields, fieldsOf, Returned, version};
-use counts::Counts;
-use kinds::Answer;
-use kinds::Reply;
-
-// The values of an answer: both counts of elements; position, value, lowest and highest of a refused one; 0 where the answer has no such value.
-pub type Values = [u64; 6];
-
-// What an exported call leaves beside its number: those values, and then the counts mapped, exact, rounded, clamped and wrapped. In C and in Rust it is
-// a struct of these fields.
-pub type Fields = [u64; 11];
-
-// The values of an answer.
-fn values(a: Answer) -> Values
-    ensures { λ r. ⌜ r ≡ valueFields a ⌝ }
-{
-    match a {
-        Answer::Converted => [0, 0, 0, 0, 0, 0],
-        Answer::UnknownCode => [0, 0, 0, 0, 0, 0],
-        Answer::BrokenMap => [0, 0, 0, 0, 0, 0],
-        Answer::BrokenElement => [0, 0, 0, 0, 0, 0],
-        Answer::LengthMismatch { src_len, dst_len } => [src_len as u64, dst_len as u64, 0, 0, 0, 0],
-        Answer::NanOrInf { position, value } => [0, 0, position as u64, value, 0, 0],
-        Answer::OutOfRange {
-            position,
-            value,
-            lo,
-            hi,
-        } => [0, 0, position as u64, value, typed_values::bits_i64(lo), hi],
-        Answer::FloatOutOfRange {
-            position,
-            value,
-            lo,
-            hi,
-        } => [0, 0, position as u64, value, lo, hi],
-    }
-}
-
-// The fields of an answer and of the counts beside it.
-pub fn fields(a: Answer, c: Counts) -> Fields
-    ensures { λ r. ⌜ r ≡ fieldsOf a c ⌝ }
-{
-    let v = values(a);
-    [
-        v[0],
-        v[1],
-        v[2],
-        v[3],
-        v[4],
-        v[5],
-        c.mapped as u64,
-        c.exact as u64,
-        c.rounded as u64,
-        c.clamped as u64,
-        c.wrapped as u64,
-    ]
-}
-
-// Leaves the fields of what a call returns in `answer`, and returns the answer's number.
-pub fn answered(r: Reply, answer: &mut Fields) -> u8
-    ensures { λ n. ⌜ (n ≡ numberOf (r .answer)) × (now (answer .exit) ≡ fieldsOf (r .answer) (r .counts)) ⌝ }
-{
-    let a = r.answer;
-    let c = r.counts;
-    *answer = fields(a, c);
-    kinds::number(a)
-}
+ghost use Rattle.answer_fields.specs.Returned.{Returned};
+ghost use Rattle.polskrea.specs.Version.{version};
+use answer_fields::Fields;
 
 // Converts a chunk, returns the answer's number, 0 to 7, and leaves its fields in `answer`.
 #[no_mangle]
@@ -86,7 +21,7 @@ pub extern "C" fn polskrea_convert(
     ensures { λ r. ⌜ Returned (inputs (now (src .entry)) (now (dst .entry)) (now (keys .entry)) (now (targets .entry)) from to rounding range) r (now (answer .exit)) (now (dst .exit)) ⌝ }
 {
     let r = chunk::convert(src, dst, keys, targets, from, to, rounding, range);
-    answered(r, answer)
+    answer_fields::answered(r, answer)
 }
 
 // The version of the calls above.

@@ -40,8 +40,8 @@ use Rattle.kinds.proofs.Reply as R
 use Rattle.kinds.specs.declared.Reply.{Reply}
 use Rattle.kinds.specs.Answer.{numberOf}
 use Rattle.typed.proofs.Conversions.{Pair, ended, clauses, Converts}
-use Rattle.polskrea.proofs.Exported.{exported}
-use Rattle.polskrea.specs.Returned.{fieldsOf}
+use Rattle.answer_fields.proofs.Exported.{exported}
+use Rattle.answer_fields.specs.Returned.{fieldsOf}
 use Rattle.polskrea_typed.specs.Exported.{Exported}
 
 -- the caller's fields

@@ -5,7 +5,7 @@ use Rattle.patterns.specs.Kind.{width}
 use Rattle.kinds.specs.Codes.{kindOf}
 use Rattle.cast_spec.specs.Element.{Entry}
 use Rattle.typed.specs.Typed.{typedInputs, bytesOf}
-use Rattle.polskrea.specs.Returned.{Returned}
+use Rattle.answer_fields.specs.Returned.{Returned}
 
 -- the patterns of source, destination and entries, the number and the fields that come back, and the destination's patterns at exit
 abbrev pub Exported : ℕ → ℕ → List ℕ → List ℕ → List Entry → ℕ → ℕ → ℕ → List ℕ → List ℕ → Type 0

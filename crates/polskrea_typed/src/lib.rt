@@ -3,7 +3,7 @@ ghost use mathlib.Core.List.{map};
 ghost use Rattle.typed_values.specs.Bits.{f64Bits, f32Bits, i64Bits, u8Bits, i32Bits};
 ghost use Rattle.typed_entries.specs.Entries.{f64U8, f64I32, f32U8, f64F32, i64F32};
 ghost use Rattle.polskrea_typed.specs.Exported.{Exported};
-use polskrea::Fields;
+use answer_fields::Fields;
 use typed_entries::Entry;
 use typed_entries::EntryF32U8;
 use typed_entries::EntryF64I32;
@@ -23,7 +23,7 @@ pub extern "C" fn polskrea_convert_f64_to_u8(
     ensures { λ r. ⌜ Exported 9 4 (map f64Bits (now (src .entry))) (map u8Bits (now (dst .entry))) (map f64U8 (now (entries .entry))) rounding range r (now (answer .exit)) (map u8Bits (now (dst .exit))) ⌝ }
 {
     let r = typed::convert_f64_to_u8(src, dst, entries, rounding, range);
-    polskrea::answered(r, answer)
+    answer_fields::answered(r, answer)
 }
 
 // Converts f64 elements to i32 with a slice of entries, likewise.
@@ -39,7 +39,7 @@ pub extern "C" fn polskrea_convert_f64_to_i32(
     ensures { λ r. ⌜ Exported 9 2 (map f64Bits (now (src .entry))) (map i32Bits (now (dst .entry))) (map f64I32 (now (entries .entry))) rounding range r (now (answer .exit)) (map i32Bits (now (dst .exit))) ⌝ }
 {
     let r = typed::convert_f64_to_i32(src, dst, entries, rounding, range);
-    polskrea::answered(r, answer)
+    answer_fields::answered(r, answer)
 }
 
 // Converts f32 elements to u8 with a slice of entries, likewise.
@@ -55,7 +55,7 @@ pub extern "C" fn polskrea_convert_f32_to_u8(
     ensures { λ r. ⌜ Exported 8 4 (map f32Bits (now (src .entry))) (map u8Bits (now (dst .entry))) (map f32U8 (now (entries .entry))) rounding range r (now (answer .exit)) (map u8Bits (now (dst .exit))) ⌝ }
 {
     let r = typed::convert_f32_to_u8(src, dst, entries, rounding, range);
-    polskrea::answered(r, answer)
+    answer_fields::answered(r, answer)
 }
 
 // Converts f64 elements to f32 with a slice of entries, likewise.
@@ -71,7 +71,7 @@ pub extern "C" fn polskrea_convert_f64_to_f32(
     ensures { λ r. ⌜ Exported 9 8 (map f64Bits (now (src .entry))) (map f32Bits (now (dst .entry))) (map f64F32 (now (entries .entry))) rounding range r (now (answer .exit)) (map f32Bits (now (dst .exit))) ⌝ }
 {
     let r = typed::convert_f64_to_f32(src, dst, entries, rounding, range);
-    polskrea::answered(r, answer)
+    answer_fields::answered(r, answer)
 }
 
 // Converts i64 elements to f32 with a slice of entries, likewise.
@@ -87,5 +87,5 @@ pub extern "C" fn polskrea_convert_i64_to_f32(
     ensures { λ r. ⌜ Exported 3 8 (map i64Bits (now (src .entry))) (map f32Bits (now (dst .entry))) (map i64F32 (now (entries .entry))) rounding range r (now (answer .exit)) (map f32Bits (now (dst .exit))) ⌝ }
 {
     let r = typed::convert_i64_to_f32(src, dst, entries, rounding, range);
-    polskrea::answered(r, answer)
+    answer_fields::answered(r, answer)
 }

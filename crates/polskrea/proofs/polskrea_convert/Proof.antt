@@ -2,7 +2,7 @@
 use borrow.Author.Needs.{needs}
 use Rattle.polskrea.proofs.polskrea_convert.Tie as tie
 use Rattle.polskrea.proofs.polskrea_convert.Statement.{statement}
-use Rattle.polskrea.proofs.Exported.{exported}
+use Rattle.answer_fields.proofs.Exported.{exported}
 
 returns : tie.Need-returns
 returns c = exported _ (c .before .before .before .before .convert .result) _ _ _ (c .before .before .before .before .convert .ensures) (c .answered .ensures .0) (c .answered .ensures .1)

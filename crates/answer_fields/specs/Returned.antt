@@ -29,7 +29,3 @@ pub record Returned (I : Inputs) (n : ℕ) (fields d : List ℕ) : Type 0 where
   pub demand1 : Demand1 I (answerOf I) d
   pub demand3 : Demand3 (callOf I) (answerOf I) (resultAt I d)
   pub counted : Counted (callOf I) (answerOf I) (countsOf I)
-
--- of these calls; 2 stands for 0.2
-abbrev pub version : ℕ
-version = 2

@@ -1,4 +1,4 @@
--- `polskrea::values` meets its contract: each arm has its answer's values.
+-- `answer_fields::values` meets its contract: each arm has its answer's values.
 use mathlib.Core.List.{[], _∷_}
 use mathlib.Core.Path.{_≡_, sym, ap, _∙_}
 use Prim.Native.Nat.{ℕ}
@@ -6,9 +6,9 @@ use mir.Val.{toZ, ofZ}
 use mir.Syntax.{w64}
 use borrow.Author.Needs.{needs}
 use Rattle.patterns.specs.Pattern.{lowBits}
-use Rattle.polskrea.specs.Returned.{valueFields}
-use Rattle.polskrea.proofs.values.Tie as tie
-use Rattle.polskrea.proofs.values.Statement.{statement}
+use Rattle.answer_fields.specs.Returned.{valueFields}
+use Rattle.answer_fields.proofs.values.Tie as tie
+use Rattle.answer_fields.proofs.values.Statement.{statement}
 
 -- a signed field is read back from its bits as it was
 low-back : (c : tie.After-bits-i64) → toZ w64 (ofZ w64 (c .before .before .a3 .given .0 .1 .1 .0)) ≡ c .before .before .a3 .given .0 .1 .1 .0

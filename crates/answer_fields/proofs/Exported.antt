@@ -11,7 +11,7 @@ use Rattle.cast_spec.specs.Counted.{Counted}
 use Rattle.cast_spec.specs.Demand1.{Demand1}
 use Rattle.cast_spec.specs.Demand3.{Demand3}
 use Rattle.cast_spec.specs.Contract.{Contract}
-use Rattle.polskrea.specs.Returned.{fieldsOf, Returned}
+use Rattle.answer_fields.specs.Returned.{fieldsOf, Returned}
 
 pub exported : (I : Inputs) (r : Reply) (n : ℕ) (fields d : List ℕ) → Contract I r d → n ≡ numberOf (r .answer) → fields ≡ fieldsOf (r .answer) (r .counts) → Returned I n fields d
 exported I r n fields d c e f = record {

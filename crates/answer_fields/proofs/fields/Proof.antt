@@ -1,11 +1,11 @@
--- `polskrea::fields` meets its contract: the values of the answer, and the counts behind them.
+-- `answer_fields::fields` meets its contract: the values of the answer, and the counts behind them.
 use mathlib.Core.List.{List, [], _∷_}
 use mathlib.Core.Path.{ap}
 use Prim.Native.Nat.{ℕ}
 use lib.ListN.{getD}
 use borrow.Author.Needs.{needs}
-use Rattle.polskrea.proofs.fields.Tie as tie
-use Rattle.polskrea.proofs.fields.Statement.{statement}
+use Rattle.answer_fields.proofs.fields.Tie as tie
+use Rattle.answer_fields.proofs.fields.Statement.{statement}
 
 returns : tie.Need-returns
 returns c =
