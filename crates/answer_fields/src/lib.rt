@@ -36,6 +36,7 @@ fn values(a: Answer) -> Values
             lo,
             hi,
         } => [0, 0, position as u64, value, lo, hi],
+        Answer::BarredWrap => [0, 0, 0, 0, 0, 0],
     }
 }
 

@@ -1,55 +1,82 @@
--- What the checks 1 to 4 settle: each number's cause, the answer and the destination behind them, and that the destination keeps its length.
+-- What the checks settle: each number's cause, the answer and the destination behind them, and that the destination keeps its length.
 use mathlib.Core.Path.{_≡_, refl, sym, ap, subst, _∙_}
 use mathlib.Core.Logic.{_↔_, _⊎_, ⊎-elim}
 use mathlib.Core.Bool.{Bool, true, false, _&&_, cond, true≢false, false≢true}
-use mathlib.Core.List.{List}
-use Prim.Native.Nat.{ℕ, zero, suc, _+_, _-_, _*_, _/_, _%_, _≤_}
+use mathlib.Core.List.{List, [], _∷_}
+use Prim.Native.Nat.{ℕ, zero, suc, _+_, _-_, _*_, _/_, _%_, _≤_, _<_}
 use native.Mathlib.Nat.{div-add-mod', le-of-eq}
 use native.Mathlib.Omega.{arith}
-use lib.Dec.{T, eqb, eqb→eq}
+use lib.Dec.{T, eqb, eqb→eq, ltb, ltb→lt}
 use lib.ListN.{length, drop, length-append, length-drop}
 use Rattle.bytes_le.specs.Bytes.{toLe}
 use Rattle.bytes_le.proofs.Sums.{length-toLe}
-use Rattle.kinds.specs.Answer.{numberOf}
+use Rattle.kinds.specs.Answer.{numberOf, namesPosition}
 use Rattle.kinds.specs.declared.Outcome.{Outcome}
 use Rattle.kinds.specs.declared.Outcome.the-variants.{Stored, NanOrInf, OutOfRange, FloatOutOfRange}
 use Rattle.kinds.specs.declared.Answer.{Answer}
 use Rattle.kinds.specs.declared.Answer.the-variants as A
-use Rattle.cast_spec.specs.Chunk.{Inputs, sw, dw, codesListed, mapWhole, bytesWhole, countsMeet, callOf, outcomeAt, answerFrom, answerOf, bytesNext, bytesFrom, destinationOf}
+use Rattle.cast_spec.specs.Chunk.{Inputs, sw, dw, codesListed, wrapPermitted, mapWhole, bytesWhole, countsMeet, Check, checksOf, allPass, tested, callOf, outcomeAt, answerFrom, answerOf, bytesNext, bytesFrom, destinationOf}
 
--- ---- the checks pass
-passes : (a b c d : Bool) (x p q r s : Answer) → T (a && b && c && d) → cond a (cond b (cond c (cond d x p) q) r) s ≡ x
-passes true true true true x p q r s t = refl
-passes true true true false x p q r s t = absurd t
-passes true true false d x p q r s t = absurd t
-passes true false c d x p q r s t = absurd t
-passes false b c d x p q r s t = absurd t
+-- ---- any checks
+pub tested-pass : (cs : List Check) (x : Answer) → T (allPass cs) → tested cs x ≡ x
+tested-pass [] x t = refl
+tested-pass (c ∷ cs) x t = go (c .passes) (tested-pass cs x) t
+  where
+    go : (b : Bool) → (T (allPass cs) → tested cs x ≡ x) → T (b && allPass cs) → cond b (tested cs x) (c .refusal) ≡ x
+    go true f t = f t
+    go false f t = absurd t
+
+-- each of their refusals is so
+abbrev pub EachRefusal : (Answer → Type 0) → List Check → Type 0
+EachRefusal P [] = Unit {0}
+EachRefusal P (c ∷ cs) = P (c .refusal) × EachRefusal P cs
+
+-- what holds of each refusal, and of x where all pass, holds of the answer
+pub tested-by : (P : Answer → Type 0) (cs : List Check) (x : Answer) → EachRefusal P cs → (allPass cs ≡ true → P x) → P (tested cs x)
+tested-by P [] x h g = g refl
+tested-by P (c ∷ cs) x h g = go (c .passes) (tested-by P cs x (h .1)) g
+  where
+    go : (b : Bool) → ((allPass cs ≡ true → P x) → P (tested cs x)) → (b && allPass cs ≡ true → P x) → P (cond b (tested cs x) (c .refusal))
+    go true f g = f g
+    go false f g = h .0
 
 chosen : (a : Bool) (x y : List ℕ) → T a → cond a x y ≡ x
 chosen true x y t = refl
 chosen false x y t = absurd t
 
-pub second-fourth : (a b c d : Bool) → T (a && b && c && d) → T b × T d
-second-fourth true true true true h = (tt, tt)
-second-fourth true true true false h = absurd h
-second-fourth true true false d h = absurd h
-second-fourth true false c d h = absurd h
-second-fourth false b c d h = absurd h
+both : (a b : Bool) → T (a && b) → T a × T b
+both true b h = (tt, h)
+both false b h = absurd h
 
-third : (a b c d : Bool) → T (a && b && c && d) → T c
-third true true true d h = tt
-third true true false d h = absurd h
-third true false c d h = absurd h
-third false b c d h = absurd h
+-- ---- each check of a call that passes
+module _ (I : Inputs) (t : T (callOf I .passed)) where
+  behind-1 : T (wrapPermitted I && (mapWhole I && (bytesWhole I && (countsMeet I && true))))
+  unfolding callOf
+  behind-1 = both (codesListed I) _ t .1
 
-second : (a b : Bool) → T (a && b) → T b
-second true b h = h
-second false b h = absurd h
+  pub range-listed : I .range < 3
+  unfolding callOf
+  range-listed = ltb→lt (I .range) 3 (both (ltb (I .from) 10 && ltb (I .to) 10 && ltb (I .rounding) 5) (ltb (I .range) 3) (both (codesListed I) _ t .0) .1)
+
+  pub wrap-permitted : T (wrapPermitted I)
+  wrap-permitted = both (wrapPermitted I) _ behind-1 .0
+
+  pub map-whole : T (mapWhole I)
+  map-whole = both (mapWhole I) _ (both (wrapPermitted I) _ behind-1 .1) .0
+
+  bytes-then-counts : T (bytesWhole I && (countsMeet I && true))
+  bytes-then-counts = both (mapWhole I) _ (both (wrapPermitted I) _ behind-1 .1) .1
+
+  bytes-whole : T (bytesWhole I)
+  bytes-whole = both (bytesWhole I) _ bytes-then-counts .0
+
+  counts-equal : T (countsMeet I)
+  counts-equal = both (countsMeet I) _ (both (bytesWhole I) _ bytes-then-counts .1) .0
 
 module _ (I : Inputs) where
   pub answer-is : T (callOf I .passed) → answerOf I ≡ answerFrom (outcomeAt (callOf I)) 0 (callOf I .count)
   unfolding answerOf callOf
-  answer-is t = passes (codesListed I) (mapWhole I) (bytesWhole I) (countsMeet I) _ _ _ _ _ t
+  answer-is t = tested-pass (checksOf I) _ t
 
   pub destination-is : T (callOf I .passed) → destinationOf I ≡ bytesFrom (outcomeAt (callOf I)) (dw I) 0 (callOf I .count) (I .destination)
   unfolding destinationOf
@@ -57,7 +84,7 @@ module _ (I : Inputs) where
 
   pub counts-meet : T (callOf I .passed) → callOf I .count ≡ length (I .destination) / dw I
   unfolding callOf
-  counts-meet h = eqb→eq (length (I .source) / sw I) (length (I .destination) / dw I) (second-fourth (codesListed I) (mapWhole I) (bytesWhole I) (countsMeet I) h .1)
+  counts-meet h = eqb→eq (length (I .source) / sw I) (length (I .destination) / dw I) (counts-equal I h)
 
   -- the elements fill the destination
   pub elements-fill : T (callOf I .passed) → callOf I .count * dw I ≡ length (I .destination)
@@ -65,7 +92,7 @@ module _ (I : Inputs) where
   elements-fill h = ap (λ (n : ℕ). n * dw I) (counts-meet h) ∙ whole (length (I .destination)) (dw I) (eqb→eq (length (I .destination) % dw I) 0 (no-rest h))
     where
       no-rest : T (callOf I .passed) → T (eqb (length (I .destination) % dw I) 0)
-      no-rest h = second (eqb (length (I .source) % sw I) 0) (eqb (length (I .destination) % dw I) 0) (third (codesListed I) (mapWhole I) (bytesWhole I) (countsMeet I) h)
+      no-rest h = both (eqb (length (I .source) % sw I) 0) (eqb (length (I .destination) % dw I) 0) (bytes-whole I h) .1
 
       whole : (l w : ℕ) → l % w ≡ 0 → l / w * w ≡ l
       whole l w e = omega (arith, div-add-mod' l w)
@@ -86,50 +113,67 @@ module _ (I : Inputs) where
   pub long-written : T (callOf I .passed) → length (bytesFrom (outcomeAt (callOf I)) (dw I) 0 (callOf I .count) (I .destination)) ≡ length (I .destination)
   long-written h = length-bytes (outcomeAt (callOf I)) (dw I) (callOf I .count) 0 (I .destination) (le-of-eq (elements-fill I h))
 
--- ---- the cause of each number, where the checks give a, b, c and d, the elements' answer is x, and s and t are the counts
-abbrev pub checked : Bool → Bool → Bool → Bool → Answer → ℕ → ℕ → Answer
-checked a b c d x s t = cond a (cond b (cond c (cond d x (A.LengthMismatch s t)) A.BrokenElement) A.BrokenMap) A.UnknownCode
+-- ---- the cause of each number, where the checks give a, b, c, d and e, the elements' answer is x, and s and t are the counts
+abbrev pub checked : Bool → Bool → Bool → Bool → Bool → Answer → ℕ → ℕ → Answer
+checked a b c d e x s t = cond a (cond b (cond c (cond d (cond e x (A.LengthMismatch s t)) A.BrokenElement) A.BrokenMap) A.BarredWrap) A.UnknownCode
 
-pub record Causes (a b c d : Bool) (r : Answer) : Type 0 where
+pub record Causes (a b c d e : Bool) (r : Answer) : Type 0 where
   pub one : (numberOf r ≡ 1) ↔ (a ≡ false)
-  pub two : (numberOf r ≡ 2) ↔ ((a ≡ true) × (b ≡ false))
-  pub three : (numberOf r ≡ 3) ↔ ((a ≡ true) × (b ≡ true) × (c ≡ false))
-  pub four : (numberOf r ≡ 4) ↔ ((a ≡ true) × (b ≡ true) × (c ≡ true) × (d ≡ false))
+  pub eight : (numberOf r ≡ 8) ↔ ((a ≡ true) × (b ≡ false))
+  pub two : (numberOf r ≡ 2) ↔ ((a ≡ true) × (b ≡ true) × (c ≡ false))
+  pub three : (numberOf r ≡ 3) ↔ ((a ≡ true) × (b ≡ true) × (c ≡ true) × (d ≡ false))
+  pub four : (numberOf r ≡ 4) ↔ ((a ≡ true) × (b ≡ true) × (c ≡ true) × (d ≡ true) × (e ≡ false))
+
+-- an answer to the elements: all converted, or a refusal that names a position
+abbrev pub ToElements : Answer → Type 0
+ToElements x = (numberOf x ≡ 0) ⊎ T (namesPosition (numberOf x))
 
 never : (m n : ℕ) → (m ≡ n → ⊥) → {P : Type 0} → m ≡ n → P
 never m n f e = absurd (f e)
 
-pub causes : (a b c d : Bool) (x : Answer) (s t : ℕ) → (numberOf x ≡ 0) ⊎ (5 ≤ numberOf x) → Causes a b c d (checked a b c d x s t)
-causes false b c d x s t h = record {
-  one = (λ e. refl, λ e. refl);
+pub causes : (a b c d e : Bool) (x : Answer) (s t : ℕ) → ToElements x → Causes a b c d e (checked a b c d e x s t)
+causes false b c d e x s t h = record {
+  one = (λ _. refl, λ _. refl);
+  eight = (never 1 8 (λ e. omega arith), λ p. absurd (false≢true (p .0)));
   two = (never 1 2 (λ e. omega arith), λ p. absurd (false≢true (p .0)));
   three = (never 1 3 (λ e. omega arith), λ p. absurd (false≢true (p .0)));
   four = (never 1 4 (λ e. omega arith), λ p. absurd (false≢true (p .0)));
 }
-causes true false c d x s t h = record {
+causes true false c d e x s t h = record {
+  one = (never 8 1 (λ e. omega arith), λ e. absurd (true≢false e));
+  eight = (λ _. (refl, refl), λ _. refl);
+  two = (never 8 2 (λ e. omega arith), λ p. absurd (false≢true (p .1)));
+  three = (never 8 3 (λ e. omega arith), λ p. absurd (false≢true (p .1)));
+  four = (never 8 4 (λ e. omega arith), λ p. absurd (false≢true (p .1)));
+}
+causes true true false d e x s t h = record {
   one = (never 2 1 (λ e. omega arith), λ e. absurd (true≢false e));
-  two = (λ e. (refl, refl), λ p. refl);
-  three = (never 2 3 (λ e. omega arith), λ p. absurd (false≢true (p .1)));
-  four = (never 2 4 (λ e. omega arith), λ p. absurd (false≢true (p .1)));
+  eight = (never 2 8 (λ e. omega arith), λ p. absurd (true≢false (p .1)));
+  two = (λ _. (refl, refl, refl), λ _. refl);
+  three = (never 2 3 (λ e. omega arith), λ p. absurd (false≢true (p .2)));
+  four = (never 2 4 (λ e. omega arith), λ p. absurd (false≢true (p .2)));
 }
-causes true true false d x s t h = record {
+causes true true true false e x s t h = record {
   one = (never 3 1 (λ e. omega arith), λ e. absurd (true≢false e));
-  two = (never 3 2 (λ e. omega arith), λ p. absurd (true≢false (p .1)));
-  three = (λ e. (refl, refl, refl), λ p. refl);
-  four = (never 3 4 (λ e. omega arith), λ p. absurd (false≢true (p .2)));
+  eight = (never 3 8 (λ e. omega arith), λ p. absurd (true≢false (p .1)));
+  two = (never 3 2 (λ e. omega arith), λ p. absurd (true≢false (p .2)));
+  three = (λ _. (refl, refl, refl, refl), λ _. refl);
+  four = (never 3 4 (λ e. omega arith), λ p. absurd (false≢true (p .3)));
 }
-causes true true true false x s t h = record {
+causes true true true true false x s t h = record {
   one = (never 4 1 (λ e. omega arith), λ e. absurd (true≢false e));
-  two = (never 4 2 (λ e. omega arith), λ p. absurd (true≢false (p .1)));
-  three = (never 4 3 (λ e. omega arith), λ p. absurd (true≢false (p .2)));
-  four = (λ e. (refl, refl, refl, refl), λ p. refl);
+  eight = (never 4 8 (λ e. omega arith), λ p. absurd (true≢false (p .1)));
+  two = (never 4 2 (λ e. omega arith), λ p. absurd (true≢false (p .2)));
+  three = (never 4 3 (λ e. omega arith), λ p. absurd (true≢false (p .3)));
+  four = (λ _. (refl, refl, refl, refl, refl), λ _. refl);
 }
-causes true true true true x s t h = record {
-  one = (never (numberOf x) 1 (other 1 (λ e. omega arith) (λ l. omega arith)), λ e. absurd (true≢false e));
-  two = (never (numberOf x) 2 (other 2 (λ e. omega arith) (λ l. omega arith)), λ p. absurd (true≢false (p .1)));
-  three = (never (numberOf x) 3 (other 3 (λ e. omega arith) (λ l. omega arith)), λ p. absurd (true≢false (p .2)));
-  four = (never (numberOf x) 4 (other 4 (λ e. omega arith) (λ l. omega arith)), λ p. absurd (true≢false (p .3)));
+causes true true true true true x s t h = record {
+  one = (never (numberOf x) 1 (other 1 (λ e. omega arith) (λ l. l)), λ e. absurd (true≢false e));
+  eight = (never (numberOf x) 8 (other 8 (λ e. omega arith) (λ l. l)), λ p. absurd (true≢false (p .1)));
+  two = (never (numberOf x) 2 (other 2 (λ e. omega arith) (λ l. l)), λ p. absurd (true≢false (p .2)));
+  three = (never (numberOf x) 3 (other 3 (λ e. omega arith) (λ l. l)), λ p. absurd (true≢false (p .3)));
+  four = (never (numberOf x) 4 (other 4 (λ e. omega arith) (λ l. l)), λ p. absurd (true≢false (p .4)));
 }
   where
-    other : (n : ℕ) → (0 ≡ n → ⊥) → (5 ≤ n → ⊥) → numberOf x ≡ n → ⊥
-    other n f g e = ⊎-elim (λ (z : numberOf x ≡ 0). f (sym z ∙ e)) (λ (l : 5 ≤ numberOf x). g (subst (λ (m : ℕ). 5 ≤ m) e l)) h
+    other : (n : ℕ) → (0 ≡ n → ⊥) → (T (namesPosition n) → ⊥) → numberOf x ≡ n → ⊥
+    other n f g e = ⊎-elim (λ (z : numberOf x ≡ 0). f (sym z ∙ e)) (λ (l : T (namesPosition (numberOf x))). g (subst (λ (m : ℕ). T (namesPosition m)) e l)) h

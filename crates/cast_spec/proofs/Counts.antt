@@ -5,10 +5,10 @@ use mathlib.Core.Bool.{Bool, true, false, cond}
 use Prim.Native.Nat.{ℕ, zero, suc, _+_, _≤_, _<_}
 use native.Mathlib.Nat.{lt-of-lt-of-le, zero-add}
 use native.Mathlib.Omega.{arith}
-use lib.Dec.{T, eqb, lit≤}
+use lib.Dec.{T, eqb}
 use borrow.Author.Tests.{eqb-true, eqb-false}
 use Rattle.patterns.specs.Kind.{WellFormed}
-use Rattle.kinds.specs.Answer.{numberOf, positionOf}
+use Rattle.kinds.specs.Answer.{numberOf, namesPosition, leavesAll, positionOf}
 use Rattle.counts.specs.Counts.{placeOf, countOf}
 use Rattle.kinds.specs.declared.Answer.{Answer}
 use Rattle.kinds.specs.declared.Answer.the-variants as A
@@ -88,8 +88,8 @@ module _ (I : Inputs) where
   abbrev n : ℕ
   n = callOf I .count
 
-  before : (r : Answer) → answerOf I ≡ r → 5 ≤ numberOf r → (i : ℕ) → i < positionOf r → StoredAt o i
-  before r e h i l = let d = demand1 I .before (subst (λ (z : Answer). 5 ≤ numberOf z) (sym e) h) i (subst (λ (z : Answer). i < positionOf z) (sym e) l) in (d .pattern, d .fared, d .outcome)
+  before : (r : Answer) → answerOf I ≡ r → T (namesPosition (numberOf r)) → (i : ℕ) → i < positionOf r → StoredAt o i
+  before r e h i l = let d = demand1 I .before (subst (λ (z : Answer). T (namesPosition (numberOf z))) (sym e) h) i (subst (λ (z : Answer). i < positionOf z) (sym e) l) in (d .pattern, d .fared, d .outcome)
 
   stored : (r : Answer) → answerOf I ≡ r → (i : ℕ) → i < convertedOf n r → StoredAt o i
   stored A.Converted e i l = let d = demand1 I .all-converted (ap numberOf e) i l in (d .pattern, d .fared, d .outcome)
@@ -97,9 +97,10 @@ module _ (I : Inputs) where
   stored A.BrokenMap e i l = absurd (omega arith)
   stored A.BrokenElement e i l = absurd (omega arith)
   stored (A.LengthMismatch a b) e i l = absurd (omega arith)
-  stored (A.NanOrInf j v) e i l = before (A.NanOrInf j v) e (lit≤ tt) i l
-  stored (A.OutOfRange j v lo hi) e i l = before (A.OutOfRange j v lo hi) e (lit≤ tt) i l
-  stored (A.FloatOutOfRange j v lo hi) e i l = before (A.FloatOutOfRange j v lo hi) e (lit≤ tt) i l
+  stored (A.NanOrInf j v) e i l = before (A.NanOrInf j v) e tt i l
+  stored (A.OutOfRange j v lo hi) e i l = before (A.OutOfRange j v lo hi) e tt i l
+  stored (A.FloatOutOfRange j v lo hi) e i l = before (A.FloatOutOfRange j v lo hi) e tt i l
+  stored A.BarredWrap e i l = absurd (omega arith)
 
   class-told : (i : ℕ) (f : Fared) (b : ℕ) → o i ≡ Stored b f → Fares (callOf I) f i × ((g : Fared) → Fares (callOf I) g i → f ≡ g)
   class-told i f b e = let ok = subst WellFormed (sym (to-is I)) (good (I .to)) in (fares (callOf I) i ok f b e, λ g p. named (callOf I) i ok g f b p e)
@@ -137,15 +138,16 @@ converted-le o (suc n) a = go (o a) (subst (λ (z : ℕ). convertedOf z (answerF
     go (OutOfRange v lo hi) h = omega arith
     go (FloatOutOfRange v lo hi) h = omega arith
 
-early-none : (n : ℕ) (r : Answer) → 1 ≤ numberOf r → numberOf r ≤ 4 → convertedOf n r ≡ 0
-early-none n A.Converted l h = absurd (omega arith)
-early-none n A.UnknownCode l h = refl
-early-none n A.BrokenMap l h = refl
-early-none n A.BrokenElement l h = refl
-early-none n (A.LengthMismatch a b) l h = refl
-early-none n (A.NanOrInf i v) l h = absurd (omega arith)
-early-none n (A.OutOfRange i v lo hi) l h = absurd (omega arith)
-early-none n (A.FloatOutOfRange i v lo hi) l h = absurd (omega arith)
+early-none : (n : ℕ) (r : Answer) → T (leavesAll (numberOf r)) → convertedOf n r ≡ 0
+early-none n A.Converted h = absurd h
+early-none n A.UnknownCode h = refl
+early-none n A.BrokenMap h = refl
+early-none n A.BrokenElement h = refl
+early-none n (A.LengthMismatch a b) h = refl
+early-none n (A.NanOrInf i v) h = absurd h
+early-none n (A.OutOfRange i v lo hi) h = absurd h
+early-none n (A.FloatOutOfRange i v lo hi) h = absurd h
+early-none n A.BarredWrap h = refl
 
 pub converted-within : (I : Inputs) (j : ℕ) → j < convertedOf (callOf I .count) (answerOf I) → T (callOf I .passed) × (j < callOf I .count)
 converted-within I j l = go (callOf I .passed) refl
@@ -154,4 +156,4 @@ converted-within I j l = go (callOf I .passed) refl
     go true e =
         let m = subst (λ (r : Answer). j < convertedOf (callOf I .count) r) (answer-is I (subst T (sym e) tt)) l in
         (tt, lt-of-lt-of-le m (subst (λ (z : ℕ). convertedOf z (answerFrom (outcomeAt (callOf I)) 0 (callOf I .count)) ≤ z) (zero-add (callOf I .count)) (converted-le (outcomeAt (callOf I)) (callOf I .count) 0)))
-    go false e = let r = refused-early I e in absurd (omega (arith, early-none (callOf I .count) (answerOf I) (r .0) (r .1)))
+    go false e = absurd (omega (arith, early-none (callOf I .count) (answerOf I) (refused-early I e)))

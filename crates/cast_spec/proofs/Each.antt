@@ -73,12 +73,18 @@ congruent s n neg v y ok on e =
       apart = t .1;
     }
 
--- ---- a pick past the range
-handled : (k : Kind) (m : OutOfRangeMode) (r : Answer) (v : Value) (i u : ℕ) (neg : Bool) (x y : ℤ) → WellFormed k → OnGrid (gridOf k) y → x ≡ signed neg (natAbs x)
+-- ---- a pick past the range, under settings that do not wrap to a float
+abbrev pub WrapsFloat : Kind → OutOfRangeMode → Type 0
+WrapsFloat (integer s n) m = ⊥
+WrapsFloat (binary p w s) None = ⊥
+WrapsFloat (binary p w s) Clamp = ⊥
+WrapsFloat (binary p w s) Wrap = Unit {0}
+
+handled : (k : Kind) (m : OutOfRangeMode) (r : Answer) (v : Value) (i u : ℕ) (neg : Bool) (x y : ℤ) → WellFormed k → (WrapsFloat k m → ⊥) → OnGrid (gridOf k) y → x ≡ signed neg (natAbs x)
     → Served k r v i (beyond k m u neg y) → Handled k m r v i x y
 unfolding beyond
-handled (integer s n) None r v i u neg x y ok on e f = f
-handled (integer s n) Clamp r v i u neg x y ok on e f = (
+handled (integer s n) None r v i u neg x y ok free on e f = f
+handled (integer s n) Clamp r v i u neg x y ok free on e f = (
   f .0,
   λ (h : y <ℤ lowest (integer s n)). at (lowest (integer s n)) (nearer-low (integer s n) y h) (low-on s n) (≤ℤ-refl (lowest (integer s n)), ends-meet (integer s n)),
   λ (h : highest (integer s n) <ℤ y). at (highest (integer s n)) (nearer-high (integer s n) y h) (high-on s n) (ends-meet (integer s n), ≤ℤ-refl (highest (integer s n))),
@@ -86,9 +92,9 @@ handled (integer s n) Clamp r v i u neg x y ok on e f = (
   where
     at : (z : ℤ) → nearerEnd (integer s n) y ≡ z → OnGrid (whole 1074) z → InRange (integer s n) z → v ≡ num z
     at z c on h = f .1 (int-fits s n neg (nearerEnd (integer s n) y) ok) ∙ ap (λ (a : ℤ). valueOf (integer s n) (patternOf (integer s n) neg a)) c ∙ int-back s n neg z ok on h
-handled (integer s n) Wrap r v i u neg x y ok on e f = (f .0, congruent s n neg v y ok on (f .1 (int-fits s n neg y ok)))
-handled (binary p w s) None r v i u neg x y ok on e f = f
-handled (binary p w s) Clamp r v i u neg x y ok on e f = (
+handled (integer s n) Wrap r v i u neg x y ok free on e f = (f .0, congruent s n neg v y ok on (f .1 (int-fits s n neg y ok)))
+handled (binary p w s) None r v i u neg x y ok free on e f = f
+handled (binary p w s) Clamp r v i u neg x y ok free on e f = (
   f .0,
   λ (h : x <ℤ pos 0). at ∙ ap inf (is-negative neg x (natAbs x) e h),
   λ (h : pos 0 <ℤ x). at ∙ ap inf (is-positive neg x (natAbs x) e h),
@@ -96,12 +102,12 @@ handled (binary p w s) Clamp r v i u neg x y ok on e f = (
   where
     at : v ≡ inf neg
     at = f .1 (floats.inf-fits p w s (ok .0) (ok .1) neg) ∙ floats.inf-back p w s (ok .0) (ok .1) neg
-handled (binary p w s) Wrap r v i u neg x y ok on e f = f
+handled (binary p w s) Wrap r v i u neg x y ok free on e f = absurd (free tt)
 
 -- ---- the law
-pub each-of : (c : Call) (r : Answer) (v : Value) (i : ℕ) (x : ℤ) → WellFormed (c .settings .to) → Taken c i x → Served (c .settings .to) r v i (outcomeAt c i) → Rounded (c .settings) r v i x
+pub each-of : (c : Call) (r : Answer) (v : Value) (i : ℕ) (x : ℤ) → WellFormed (c .settings .to) → (WrapsFloat (c .settings .to) (c .settings .range) → ⊥) → Taken c i x → Served (c .settings .to) r v i (outcomeAt c i) → Rounded (c .settings) r v i x
 unfolding outcomeAt
-each-of c r v i x ok t f =
+each-of c r v i x ok free t f =
     let S = c .settings in
     let k = S .to in
     let b = c .element i in
@@ -114,5 +120,5 @@ each-of c r v i x ok t f =
       y = y;
       pick = P;
       result = λ (a : InRange k y). (h .0 a .0, h .0 a .1 (pattern-fits k neg y ok (P .on) a) ∙ pattern-back k neg y ok (P .on) a (pick-sign (gridOf k) (sound k ok) (S .rule) neg x e));
-      past = λ n. handled k (S .range) r v i (asF64 (S .from) b) neg x y ok (P .on) e (h .1 n);
+      past = λ n. handled k (S .range) r v i (asF64 (S .from) b) neg x y ok free (P .on) e (h .1 n);
     }

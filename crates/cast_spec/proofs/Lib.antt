@@ -5,6 +5,7 @@ pub mod Places
 pub mod Widths
 pub mod Checks
 pub mod Demand3
+pub mod Overrun
 pub mod Demand1
 pub mod Classes
 pub mod Counts
@@ -12,6 +13,7 @@ pub mod Contract
 pub mod Refusals
 pub mod Runs
 pub mod OneAnswer
+pub mod BarredWrap
 pub mod Strength
 pub mod Samples
 pub mod Witness

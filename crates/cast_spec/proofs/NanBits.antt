@@ -2,7 +2,7 @@
 use mathlib.Core.Path.{_≡_, refl, sym, ap, ap₂, subst, _∙_}
 use mathlib.Core.Logic.{_⊎_, inl, inr}
 use mathlib.Core.Bool.{Bool, true, false, _&&_, cond}
-use mathlib.Core.List.{List, _++_}
+use mathlib.Core.List.{List, [], _∷_, _++_}
 use Prim.Native.Nat.{ℕ, zero, suc, _+_, _-_, _*_, _/_, _%_, _^_, _≤_, _<_}
 use native.Mathlib.Nat.{mod-lt, mod-mod, zero-add}
 use native.Mathlib.Omega.{arith}
@@ -31,14 +31,13 @@ use Rattle.kinds.specs.declared.Lookup.the-variants.{Found}
 use Rattle.kinds.specs.declared.Outcome.{Outcome}
 use Rattle.kinds.specs.declared.Outcome.the-variants.{Stored, NanOrInf, OutOfRange, FloatOutOfRange}
 use Rattle.kinds.specs.declared.Answer.{Answer}
-use Rattle.kinds.specs.declared.Answer.the-variants as A
 use Rattle.kinds.specs.declared.Reply.{Reply}
 use Rattle.cast_spec.specs.Element.{Entry, Settings, matches, lookupOf, foundOr, converted, outcomeOf}
-use Rattle.cast_spec.specs.Chunk.{Inputs, inputs, entriesFrom, sw, dw, settingsOf, codesListed, mapWhole, bytesWhole, countsMeet, callOf, outcomeAt, answerNext, answerFrom, answerOf, convertedOf, faredAs, countBelow, countsOf, bytesNext, bytesFrom, destinationOf}
+use Rattle.cast_spec.specs.Chunk.{Inputs, inputs, entriesFrom, sw, dw, settingsOf, mapWhole, bytesWhole, countsMeet, Check, checksOf, allPass, tested, callOf, outcomeAt, answerNext, answerFrom, answerOf, convertedOf, faredAs, countBelow, countsOf, bytesNext, bytesFrom, destinationOf}
 use Rattle.cast_spec.specs.Contract.{Contract}
 use Rattle.cast_spec.specs.NanBits.{Alike, AlikeBytes, AlikeInputs, SameAnswer, SameButNans}
 use Rattle.cast_spec.proofs.Widths.{kind-fits}
-use Rattle.cast_spec.proofs.Checks.{second-fourth, counts-meet, long-written}
+use Rattle.cast_spec.proofs.Checks.{map-whole, counts-meet, long-written}
 use Rattle.cast_spec.proofs.Counts.{converted-within}
 use Rattle.cast_spec.proofs.Steps.{no-map}
 
@@ -249,12 +248,13 @@ module _ (k : Kind) (o o′ : ℕ → Outcome) where
     bytes-alike (suc n) i d d′ h g = bytes-next n (o i) (o′ i) d d′ (bytesFrom o w (suc i) n (drop w d)) (bytesFrom o′ w (suc i) n (drop w d′)) (h i (omega arith) (omega arith)) g (bytes-alike n (suc i) (drop w d) (drop w d′) (next-alikes i n h) (after n d d′ g))
 
 -- ---- the checks
-through : (a b c d : Bool) (x x′ p q r s : Answer) → (T (a && b && c && d) → SameAnswer x x′) → SameAnswer (cond a (cond b (cond c (cond d x p) q) r) s) (cond a (cond b (cond c (cond d x′ p) q) r) s)
-through true true true true x x′ p q r s h = h tt
-through true true true false x x′ p q r s h = inl refl
-through true true false d x x′ p q r s h = inl refl
-through true false c d x x′ p q r s h = inl refl
-through false b c d x x′ p q r s h = inl refl
+through : (cs : List Check) (x x′ : Answer) → (T (allPass cs) → SameAnswer x x′) → SameAnswer (tested cs x) (tested cs x′)
+through [] x x′ h = h tt
+through (c ∷ cs) x x′ h = go (c .passes) h (through cs x x′)
+  where
+    go : (b : Bool) → (T (b && allPass cs) → SameAnswer x x′) → ((T (allPass cs) → SameAnswer x x′) → SameAnswer (tested cs x) (tested cs x′)) → SameAnswer (cond b (tested cs x) (c .refusal)) (cond b (tested cs x′) (c .refusal))
+    go true h f = f h
+    go false h f = inl refl
 
 third : (x y z : Bool) → T (x && y && z) → T z
 third true true z h = h
@@ -274,10 +274,6 @@ same-converted n r a (inr b) = ap (convertedOf n) (b .first) ∙ sym (ap (conver
 five-same : {m e r c w m′ e′ r′ c′ w′ : ℕ} → m ≡ m′ → e ≡ e′ → r ≡ r′ → c ≡ c′ → w ≡ w′
     → _≡_ {A = Counts} (record { mapped = m; exact = e; rounded = r; clamped = c; wrapped = w }) (record { mapped = m′; exact = e′; rounded = r′; clamped = c′; wrapped = w′ })
 five-same a b c d e = rw (a, b, c, d, e)
-
-map-passed : (I : Inputs) → T (callOf I .passed) → T (mapWhole I)
-unfolding callOf
-map-passed I h = second-fourth (codesListed I) (mapWhole I) (bytesWhole I) (countsMeet I) h .0
 
 -- ---- any two such inputs
 module _ (I : Inputs) (s d ks ts : List ℕ) (hs : AlikeBytes (kindOf (I .from)) (sw I) (I .source) s) (hd : AlikeBytes (kindOf (I .to)) (dw I) (I .destination) d)
@@ -312,23 +308,23 @@ module _ (I : Inputs) (s d ks ts : List ℕ) (hs : AlikeBytes (kindOf (I .from))
   unfolding callOf
   alikes m j l h = outcomes m j (subst (λ (z : ℕ). j < z) (zero-add (callOf I .count)) h)
 
+  checks-same : checksOf I ≡ checksOf J
+  checks-same = rw (map-same, bytes-same, counts-same, hs .long, hd .long)
+
   answers : SameAnswer (answerOf I) (answerOf J)
-  unfolding answerOf
+  unfolding answerOf callOf
   answers =
-      subst (λ (r : Answer). SameAnswer (answerOf I) r)
-      (ap₂ (λ (b c : Bool). cond (codesListed I) (cond b (cond c (cond (countsMeet I) (answerFrom (outcomeAt (callOf J)) 0 (callOf I .count)) (A.LengthMismatch (length (I .source) / sw I) (length (I .destination) / dw I))) A.BrokenElement) A.BrokenMap) A.UnknownCode) map-same bytes-same
-      ∙ ap₂ (λ (t : Bool) (n : ℕ). cond (codesListed I) (cond (mapWhole J) (cond (bytesWhole J) (cond t (answerFrom (outcomeAt (callOf J)) 0 n) (A.LengthMismatch (length (I .source) / sw I) (length (I .destination) / dw I))) A.BrokenElement) A.BrokenMap) A.UnknownCode) counts-same count-same
-      ∙ ap₂ (λ (m n : ℕ). cond (codesListed I) (cond (mapWhole J) (cond (bytesWhole J) (cond (countsMeet J) (answerFrom (outcomeAt (callOf J)) 0 (callOf J .count)) (A.LengthMismatch (m / sw I) (n / dw I))) A.BrokenElement) A.BrokenMap) A.UnknownCode) (hs .long) (hd .long))
-      (through (codesListed I) (mapWhole I) (bytesWhole I) (countsMeet I) _ _ _ _ _ _ (λ h. answer-alike (kindOf (I .to)) (outcomeAt (callOf I)) (outcomeAt (callOf J)) (callOf I .count) 0 (alikes (second-fourth (codesListed I) (mapWhole I) (bytesWhole I) (countsMeet I) h .0))))
+      subst (λ (r : Answer). SameAnswer (answerOf I) r) (ap₂ (λ (cs : List Check) (n : ℕ). tested cs (answerFrom (outcomeAt (callOf J)) 0 n)) checks-same count-same)
+      (through (checksOf I) _ _ (λ h. answer-alike (kindOf (I .to)) (outcomeAt (callOf I)) (outcomeAt (callOf J)) (callOf I .count) 0 (alikes (map-whole I h))))
 
   passed-same : callOf I .passed ≡ callOf J .passed
   unfolding callOf
-  passed-same = ap₂ (λ (b c : Bool). codesListed I && b && c && countsMeet I) map-same bytes-same ∙ ap (λ (t : Bool). codesListed I && mapWhole J && bytesWhole J && t) counts-same
+  passed-same = ap allPass checks-same
 
   written : T (callOf I .passed) → Both (kindOf (I .to)) (outcomeAt (callOf I)) (outcomeAt (callOf J)) (dw I) (kind-fits (I .to)) (callOf I .count) (bytesFrom (outcomeAt (callOf I)) (dw I) 0 (callOf I .count) (I .destination)) (bytesFrom (outcomeAt (callOf J)) (dw I) 0 (callOf I .count) d)
   unfolding callOf
   written h =
-      bytes-alike (kindOf (I .to)) (outcomeAt (callOf I)) (outcomeAt (callOf J)) (dw I) (kind-fits (I .to)) (callOf I .count) 0 (I .destination) d (alikes (second-fourth (codesListed I) (mapWhole I) (bytesWhole I) (countsMeet I) h .0))
+      bytes-alike (kindOf (I .to)) (outcomeAt (callOf I)) (outcomeAt (callOf J)) (dw I) (kind-fits (I .to)) (callOf I .count) 0 (I .destination) d (alikes (map-whole I h))
       (record { long = hd .long; at = λ j l. hd .at j (subst (λ (z : ℕ). j < z) (counts-meet I h) l) })
 
   destinations : AlikeBytes (kindOf (I .to)) (dw I) (destinationOf I) (destinationOf J)
@@ -359,7 +355,7 @@ module _ (I : Inputs) (s d ks ts : List ℕ) (hs : AlikeBytes (kindOf (I .from))
   below-alike f = count-alike f (convertedOf (callOf I .count) (answerOf I)) reached ∙ ap (countBelow (outcomeAt (callOf J)) f) converted-same
     where
       reached : (j : ℕ) → j < convertedOf (callOf I .count) (answerOf I) → Outcomes (kindOf (I .to)) (outcomeAt (callOf I) j) (outcomeAt (callOf J) j)
-      reached j l = let w = converted-within I j l in alikes (map-passed I (w .0)) j (omega arith) (omega arith)
+      reached j l = let w = converted-within I j l in alikes (map-whole I (w .0)) j (omega arith) (omega arith)
 
   counts-alike : countsOf I ≡ countsOf J
   unfolding countsOf

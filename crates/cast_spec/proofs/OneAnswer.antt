@@ -1,22 +1,24 @@
 -- What demand 1 and the counts' classes settle: whatever the inputs are, any two answers that meet them have one number, one set of values and one set of counts, and any two destinations of bytes are one.
 use mathlib.Core.Path.{_≡_, refl, sym, ap, subst, _∙_}
-use mathlib.Core.Logic.{inl, inr}
+use mathlib.Core.Logic.{_⊎_, inl, inr, ⊎-elim}
 use mathlib.Core.Bool.{Bool, true, false, _&&_}
 use mathlib.Core.List.{List}
 use Prim.Native.Nat.{ℕ, zero, suc, _*_, _%_, _^_, _≤_, _<_}
 use native.Mathlib.Nat.{le-of-eq, le-of-lt, le-trans, mul-le-mul-right}
 use native.Mathlib.Omega.{arith}
-use lib.Dec.{T}
+use lib.Dec.{T, eqb}
 use lib.ListN.{length, drop}
 use lib.Seq.{drop-length}
+use borrow.Author.Tests.{eqb-true, eqb-false}
 use Rattle.bytes_le.specs.Bytes.{patternAt}
 use Rattle.bytes_le.proofs.Unique.{AreBytes, one-chunk}
-use Rattle.kinds.specs.Answer.{numberOf, valuesOf, positionOf, outcomeValues}
+use Rattle.kinds.specs.Answer.{numberOf, namesPosition, leavesAll, valuesOf, positionOf, outcomeValues}
+use Rattle.kinds.proofs.Numbers.{names-or-leaves, leaves-1-to-4-and-8}
 use Rattle.counts.specs.Counts.{countOf}
 use Rattle.kinds.specs.declared.Answer.{Answer}
 use Rattle.counts.specs.declared.Counts.{Counts}
 use Rattle.counts.specs.declared.Fared.{Fared}
-use Rattle.cast_spec.specs.Chunk.{Inputs, Call, callOf, outcomeAt, dw, codesListed, mapWhole, bytesWhole, countsMeet, convertedOf}
+use Rattle.cast_spec.specs.Chunk.{Inputs, Call, callOf, outcomeAt, dw, codesListed, wrapPermitted, mapWhole, bytesWhole, countsMeet, convertedOf}
 use Rattle.cast_spec.specs.Counted.{Fares, HowMany, Counted}
 use Rattle.cast_spec.specs.Demand1.{ConvertedTo, Demand1}
 use Rattle.cast_spec.proofs.Checks.{elements-fill}
@@ -25,34 +27,51 @@ use Rattle.grid.proofs.Neighbours.{cut}
 module _ (I : Inputs) where
   -- a refusal's cause is its own, so the other answer has the number too
   refused-alike : (r r′ : Answer) (d d′ : List ℕ) → Demand1 I r d → Demand1 I r′ d′ → (n : ℕ) → 1 ≤ n → numberOf r ≡ n → numberOf r′ ≡ n
-  refused-alike r r′ d d′ D D′ zero h e = absurd (omega arith)
-  refused-alike r r′ d d′ D D′ (suc zero) h e = D′ .unknown-code .1 (D .unknown-code .0 e)
-  refused-alike r r′ d d′ D D′ (suc (suc zero)) h e = D′ .broken-map .1 (D .broken-map .0 e)
-  refused-alike r r′ d d′ D D′ (suc (suc (suc zero))) h e = D′ .broken-element .1 (D .broken-element .0 e)
-  refused-alike r r′ d d′ D D′ (suc (suc (suc (suc zero)))) h e = D′ .length-mismatch .1 (D .length-mismatch .0 e)
-  refused-alike r r′ d d′ D D′ (suc (suc (suc (suc (suc n))))) h e = let l : 5 ≤ suc (suc (suc (suc (suc n)))) = omega arith in D′ .first-bad _ (positionOf r) l .1 (D .first-bad _ (positionOf r) l .0 (e, refl)) .0
+  refused-alike r r′ d d′ D D′ n h e = ⊎-elim
+      (λ (l : T (namesPosition n)). D′ .first-bad n (positionOf r) l .1 (D .first-bad n (positionOf r) l .0 (e, refl)) .0)
+      (λ (l : T (leavesAll n)). early n (leaves-1-to-4-and-8 n (subst (λ (m : ℕ). m ≤ 8) e (D .numbered)) l) e)
+      (names-or-leaves n h)
+    where
+      early : (n : ℕ) → ((1 ≤ n) × (n ≤ 4)) ⊎ (n ≡ 8) → numberOf r ≡ n → numberOf r′ ≡ n
+      early n (inr b) e = D′ .barred-wrap .1 (D .barred-wrap .0 (e ∙ b)) ∙ sym b
+      early zero (inl l) e = absurd (omega (arith, l .0))
+      early (suc zero) (inl l) e = D′ .unknown-code .1 (D .unknown-code .0 e)
+      early (suc (suc zero)) (inl l) e = D′ .broken-map .1 (D .broken-map .0 e)
+      early (suc (suc (suc zero))) (inl l) e = D′ .broken-element .1 (D .broken-element .0 e)
+      early (suc (suc (suc (suc zero)))) (inl l) e = D′ .length-mismatch .1 (D .length-mismatch .0 e)
+      early (suc (suc (suc (suc (suc n))))) (inl l) e = absurd (omega (arith, l .1))
 
   module _ (r r′ : Answer) (d d′ : List ℕ) (D : Demand1 I r d) (D′ : Demand1 I r′ d′) where
     pub one-number : numberOf r ≡ numberOf r′
     one-number = cut 0 (numberOf r) (λ h. sym (refused-alike r r′ d d′ D D′ (numberOf r) h refl))
         (λ h. cut 0 (numberOf r′) (λ l. refused-alike r′ r d′ d D′ D (numberOf r′) l refl) (λ l. omega arith))
 
-    pub one-position : 5 ≤ numberOf r → positionOf r ≡ positionOf r′
+    pub one-position : T (namesPosition (numberOf r)) → positionOf r ≡ positionOf r′
     one-position l = sym (D′ .first-bad (numberOf r) (positionOf r) l .1 (D .first-bad (numberOf r) (positionOf r) l .0 (refl, refl)) .1)
 
     pub one-set-of-values : valuesOf r ≡ valuesOf r′
-    one-set-of-values = cut (numberOf r) 4 (λ h. D .plain (omega arith) ∙ sym (D′ .plain (omega (arith, one-number))))
-        (λ h. cut (numberOf r) 5 (λ l. D .counts (omega arith) ∙ sym (D′ .counts (omega (arith, one-number))))
-        (λ l. D .of-element l ∙ ap (λ (i : ℕ). outcomeValues i (outcomeAt (callOf I) i)) (one-position l) ∙ sym (D′ .of-element (subst (λ (n : ℕ). 5 ≤ n) one-number l))))
+    one-set-of-values = go (namesPosition (numberOf r)) refl
+      where
+        go : (b : Bool) → namesPosition (numberOf r) ≡ b → valuesOf r ≡ valuesOf r′
+        go true e =
+            let l : T (namesPosition (numberOf r)) = subst T (sym e) tt in
+            D .of-element l ∙ ap (λ (i : ℕ). outcomeValues i (outcomeAt (callOf I) i)) (one-position l) ∙ sym (D′ .of-element (subst (λ (n : ℕ). T (namesPosition n)) one-number l))
+        go false e = by-4 (eqb (numberOf r) 4) refl
+          where
+            by-4 : (b : Bool) → eqb (numberOf r) 4 ≡ b → valuesOf r ≡ valuesOf r′
+            by-4 true f = let four = eqb-true (numberOf r) 4 f in D .counts four ∙ sym (D′ .counts (sym one-number ∙ four))
+            by-4 false f = let other = eqb-false (numberOf r) 4 f in D .plain e other ∙ sym (D′ .plain (ap namesPosition (sym one-number) ∙ e) (λ g. other (one-number ∙ g)))
 
 -- ---- the destination
 -- checks none of which is the first that fails
-all-pass : (a b c d : Bool) → (a ≡ false → ⊥) → ((a ≡ true) × (b ≡ false) → ⊥) → ((a ≡ true) × (b ≡ true) × (c ≡ false) → ⊥) → ((a ≡ true) × (b ≡ true) × (c ≡ true) × (d ≡ false) → ⊥) → T (a && b && c && d)
-all-pass false b c d one two three four = absurd (one refl)
-all-pass true false c d one two three four = absurd (two (refl, refl))
-all-pass true true false d one two three four = absurd (three (refl, refl, refl))
-all-pass true true true false one two three four = absurd (four (refl, refl, refl, refl))
-all-pass true true true true one two three four = tt
+none-fails : (a b c d e : Bool) → (a ≡ false → ⊥) → ((a ≡ true) × (b ≡ false) → ⊥) → ((a ≡ true) × (b ≡ true) × (c ≡ false) → ⊥) → ((a ≡ true) × (b ≡ true) × (c ≡ true) × (d ≡ false) → ⊥)
+    → ((a ≡ true) × (b ≡ true) × (c ≡ true) × (d ≡ true) × (e ≡ false) → ⊥) → T (a && (b && (c && (d && (e && true)))))
+none-fails false b c d e one eight two three four = absurd (one refl)
+none-fails true false c d e one eight two three four = absurd (eight (refl, refl))
+none-fails true true false d e one eight two three four = absurd (two (refl, refl, refl))
+none-fails true true true false e one eight two three four = absurd (three (refl, refl, refl, refl))
+none-fails true true true true false one eight two three four = absurd (four (refl, refl, refl, refl, refl))
+none-fails true true true true true one eight two three four = tt
 
 module _ (I : Inputs) (r r′ : Answer) (d d′ : List ℕ) (D : Demand1 I r d) (D′ : Demand1 I r′ d′) where
   -- an element that is converted in both has one pattern
@@ -61,8 +80,8 @@ module _ (I : Inputs) (r r′ : Answer) (d d′ : List ℕ) (D : Demand1 I r d) 
 
   passed-with-0 : numberOf r ≡ 0 → T (callOf I .passed)
   unfolding callOf
-  passed-with-0 z = all-pass (codesListed I) (mapWhole I) (bytesWhole I) (countsMeet I)
-      (λ e. omega (arith, D .unknown-code .1 e)) (λ e. omega (arith, D .broken-map .1 e)) (λ e. omega (arith, D .broken-element .1 e)) (λ e. omega (arith, D .length-mismatch .1 e))
+  passed-with-0 z = none-fails (codesListed I) (wrapPermitted I) (mapWhole I) (bytesWhole I) (countsMeet I)
+      (λ e. omega (arith, D .unknown-code .1 e)) (λ e. omega (arith, D .barred-wrap .1 e)) (λ e. omega (arith, D .broken-map .1 e)) (λ e. omega (arith, D .broken-element .1 e)) (λ e. omega (arith, D .length-mismatch .1 e))
 
   -- the first k elements are converted in both, and the rest is one
   joined : (k : ℕ) → AreBytes d → AreBytes d′ → k * dw I ≤ length (I .destination) → ((i : ℕ) → i < k → ConvertedTo I d i × ConvertedTo I d′ i) → drop (k * dw I) d ≡ drop (k * dw I) d′ → d ≡ d′
@@ -70,16 +89,16 @@ module _ (I : Inputs) (r r′ : Answer) (d d′ : List ℕ) (D : Demand1 I r d) 
 
   pub one-destination : AreBytes d → AreBytes d′ → d ≡ d′
   one-destination b b′ = cut 0 (numberOf r)
-      (λ h. cut (numberOf r) 5 (λ l. D .untouched h (omega arith) ∙ sym (D′ .untouched (subst (λ (n : ℕ). 1 ≤ n) same h) (omega (arith, same)))) (λ l. of-refusal l))
+      (λ h. ⊎-elim of-refusal (λ (l : T (leavesAll (numberOf r))). D .untouched l ∙ sym (D′ .untouched (subst (λ (n : ℕ). T (leavesAll n)) same l))) (names-or-leaves (numberOf r) h))
       (λ h. of-all (omega arith))
     where
       same : numberOf r ≡ numberOf r′
       same = one-number I r r′ d d′ D D′
 
-      of-refusal : 5 ≤ numberOf r → d ≡ d′
+      of-refusal : T (namesPosition (numberOf r)) → d ≡ d′
       of-refusal l =
           let p = positionOf r in
-          let l′ : 5 ≤ numberOf r′ = subst (λ (n : ℕ). 5 ≤ n) same l in
+          let l′ : T (namesPosition (numberOf r′)) = subst (λ (n : ℕ). T (namesPosition n)) same l in
           let at : p ≡ positionOf r′ = one-position I r r′ d d′ D D′ l in
           let R = D .first-bad (numberOf r) p l .0 (refl, refl) .0 in
           joined p b b′ (le-trans (mul-le-mul-right (dw I) (le-of-lt (R .within))) (le-of-eq (elements-fill I (R .passed))))

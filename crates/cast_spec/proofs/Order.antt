@@ -1,8 +1,8 @@
 -- The order of results follows from what is said of each element alone.
-use mathlib.Core.Path.{_≡_, ap, subst}
+use mathlib.Core.Path.{_≡_, sym, ap, subst}
 use mathlib.Core.Bool.{true, false}
-use Prim.Native.Nat.{ℕ, _≤_}
-use native.Mathlib.Omega.{arith}
+use Prim.Native.Nat.{ℕ}
+use lib.Dec.{T}
 use lib.IntN.{ℤ, pos}
 use lib.Signed.{_≤ℤ_, _<ℤ_, ≤ℤ-refl}
 use Rattle.grid.proofs.Int.{up, dn, ints, split, →eq}
@@ -14,6 +14,7 @@ use Rattle.kinds.specs.declared.OutOfRangeMode.the-variants.{None, Clamp, Wrap}
 use Rattle.cast_spec.specs.Element.{Settings}
 use Rattle.cast_spec.specs.Chunk.{Call}
 use Rattle.cast_spec.specs.Demand3.{Taken, Pick, RefusedBy, Kept, Handled, Rounded, Wraps, Wrapped, _≤ᵉ_, Compared}
+use Rattle.kinds.specs.Answer.{namesPosition}
 use Rattle.kinds.specs.declared.Answer.{Answer}
 use Rattle.grid.specs.Round.{pick}
 use Rattle.patterns.proofs.AnyKind.{high-zero, low-zero}
@@ -49,21 +50,21 @@ above-zero S x y P h = split (pos 0) x (λ l. l) (λ (l : x ≤ℤ pos 0). split
     let f : y ≡ x = P .itself (rw e (zero-on (gridOf (S .to)))) in
     absurd (omega (ints, ap up f, ap dn f))))
 
-pub refused : (r : Answer) (i k : ℕ) → 5 ≤ k → RefusedBy k r i → Kept r i → ⊥
-refused r i k h f kept = kept (omega (arith, f .0)) (f .1)
+pub refused : (r : Answer) (i k : ℕ) → T (namesPosition k) → RefusedBy k r i → Kept r i → ⊥
+refused r i k h f kept = kept (subst (λ (n : ℕ). T (namesPosition n)) (sym (f .0)) h) (f .1)
 
 -- a pick past the range, not refused and not wrapped, was clamped
 clamped : (S : Settings) (k : Kind) (m : OutOfRangeMode) (r : Answer) (v : Value) (i : ℕ) (x y : ℤ) → Kept r i → (Wraps k m → ⊥) → Handled k m r v i x y
     → (y <ℤ lowest k → (y <ℤ pos 0 → x <ℤ pos 0) → v ≡ lowEnd k) × (highest k <ℤ y → (pos 0 <ℤ y → pos 0 <ℤ x) → v ≡ highEnd k)
-clamped S (integer s n) None r v i x y kept w h = absurd (refused r i 6 (omega arith) h kept)
+clamped S (integer s n) None r v i x y kept w h = absurd (refused r i 6 tt h kept)
 clamped S (integer s n) Clamp r v i x y kept w h = (λ l _. h .1 l, λ l _. h .2 l)
 clamped S (integer s n) Wrap r v i x y kept w h = absurd (w tt)
-clamped S (binary p w s) None r v i x y kept n h = absurd (refused r i 7 (omega arith) h kept)
+clamped S (binary p w s) None r v i x y kept n h = absurd (refused r i 7 tt h kept)
 clamped S (binary p w s) Clamp r v i x y kept n h = (
   λ (l : y <ℤ lowest (binary p w s)) f. h .1 (f (omega (ints, low-zero (binary p w s)))),
   λ (l : highest (binary p w s) <ℤ y) f. h .2 (f (omega (ints, high-zero (binary p w s)))),
 )
-clamped S (binary p w s) Wrap r v i x y kept n h = absurd (refused r i 7 (omega arith) h kept)
+clamped S (binary p w s) Wrap r v i x y kept n h = absurd h
 
 landing : (S : Settings) (r : Answer) (v : Value) (i : ℕ) (x : ℤ) (R : Rounded S r v i x) → Kept r i → (Wrapped S x → ⊥) → Landing (S .to) (R .y) v
 landing S r v i x R kept free = split y (lowest (S .to))

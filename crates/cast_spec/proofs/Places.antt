@@ -4,6 +4,7 @@ use mathlib.Core.List.{List}
 use Prim.Native.Nat.{ℕ, zero, suc, _+_, _%_, _^_, _≤_, _<_}
 use native.Mathlib.Nat.{add-zero, mod-eq-of-lt}
 use native.Mathlib.Omega.{arith}
+use lib.Dec.{T}
 use lib.ListN.{drop}
 use Rattle.patterns.specs.Kind.{Kind, bits}
 use Rattle.patterns.specs.Value.{valueOf}
@@ -11,18 +12,18 @@ use Rattle.kinds.specs.declared.Outcome.{Outcome}
 use Rattle.kinds.specs.declared.Outcome.the-variants.{Stored, NanOrInf, OutOfRange, FloatOutOfRange}
 use Rattle.bytes_le.specs.Bytes.{patternAt}
 use Rattle.cast_spec.specs.Chunk.{answerNext, answerFrom, bytesNext, bytesFrom, Refuses}
-use Rattle.kinds.specs.Answer.{numberOf, positionOf}
+use Rattle.kinds.specs.Answer.{numberOf, namesPosition, positionOf}
 use Rattle.cast_spec.proofs.Each.{Served}
 use Rattle.bytes_le.proofs.Places.{first-place, next-place}
 
 -- ---- one outcome among those from a on
 module _ (o : ℕ → Outcome) (w : ℕ) where
   -- a refusal that is told lies at a or later
-  pub later : (a n : ℕ) → 5 ≤ numberOf (answerFrom o a n) → a ≤ positionOf (answerFrom o a n)
-  later a zero h = absurd (omega arith)
+  pub later : (a n : ℕ) → T (namesPosition (numberOf (answerFrom o a n))) → a ≤ positionOf (answerFrom o a n)
+  later a zero h = absurd h
   later a (suc n) h = go (o a) (later (suc a) n) h
     where
-      go : (x : Outcome) → (5 ≤ numberOf (answerFrom o (suc a) n) → suc a ≤ positionOf (answerFrom o (suc a) n)) → 5 ≤ numberOf (answerNext x a (answerFrom o (suc a) n)) → a ≤ positionOf (answerNext x a (answerFrom o (suc a) n))
+      go : (x : Outcome) → (T (namesPosition (numberOf (answerFrom o (suc a) n))) → suc a ≤ positionOf (answerFrom o (suc a) n)) → T (namesPosition (numberOf (answerNext x a (answerFrom o (suc a) n)))) → a ≤ positionOf (answerNext x a (answerFrom o (suc a) n))
       go (Stored b _) f h = omega (arith, f h)
       go (NanOrInf v) f h = omega arith
       go (OutOfRange v lo hi) f h = omega arith

@@ -111,8 +111,7 @@ samples =
     ∷ row f64 i8 NearestAway None [] 0xbfe0_0000_0000_0000 (Stored (2 ^ 8 - 1) Rounded)
     -- "testing `value <= highest` after the highest was rounded up to 2^k": 2^31 f32 to i32 is accepted, as 2^31 - 1 is 2^31 in f32.
     ∷ row f32 i32 NearestEven None [] 0x4f00_0000 (OutOfRange 0x41e0_0000_0000_0000 (negℤ (pos (2 ^ 31))) (2 ^ 31 - 1))
-    -- "making towards-zero give MAX for 2^128": 7f7fffff for 2^128, here under wrap; ff7fffff for -2^128, here under clamp.
-    ∷ row f64 f32 TowardsZero Wrap [] 0x47f0_0000_0000_0000 (past-f32 0x47f0_0000_0000_0000)
+    -- "making towards-zero give MAX for 2^128": 7f7fffff for 2^128, in sample 11; ff7fffff for -2^128, here under clamp.
     ∷ row f64 f32 TowardsZero Clamp [] 0xc7f0_0000_0000_0000 (Stored 0xff80_0000 Clamped)
     -- "rounding i64 to f64 before f32": 2^53 for 2^53 + 2^29 + 1, which f64 rounds to the halfway 2^53 + 2^29. Right is 2^53 + 2^30.
     ∷ row i64 f32 NearestEven None [] (2 ^ 53 + 2 ^ 29 + 1) (Stored 0x5a00_0001 Rounded)
@@ -140,8 +139,8 @@ samples =
     ∷ row f64 u8 NearestEven None [] 0xbfd3_3333_3333_3333 (Stored 0 Rounded)
     ∷ row f64 u8 NearestEven Clamp [] 0x4072_c800_0000_0000 (Stored 255 Clamped)
     ∷ row f64 f32 NearestEven Clamp [] 0x7ff0_0000_0000_0000 (Stored 0x7f80_0000 Exact)
-    -- ---- "Wrap with a float target is accepted and acts as range code 0": -2^128
-    ∷ row f64 f32 NearestEven Wrap [] 0xc7f0_0000_0000_0000 (past-f32 0xc7f0_0000_0000_0000)
+    -- ---- -2^128, past the other end
+    ∷ row f64 f32 NearestEven None [] 0xc7f0_0000_0000_0000 (past-f32 0xc7f0_0000_0000_0000)
     ∷ []
 
 pub samples-hold : map (λ (s : Sample). s .got) samples ≡ map (λ (s : Sample). s .wanted) samples
@@ -206,6 +205,14 @@ chunks =
     ∷ call (mixed 3) A.UnknownCode noCounts (old 5)
     ∷ call (inputs (0 ∷ []) (old 3) (0 ∷ []) [] 9 10 0 0) A.UnknownCode noCounts (old 3)
     ∷ call (inputs (0 ∷ []) (old 3) (0 ∷ []) [] 9 9 5 0) A.UnknownCode noCounts (old 3)
+    -- 8: "wrap with target kind f32 or f64, directly after 1": "empty chunks included", 1 f64, and a broken map or elements; a bad rounding code is 1
+    ∷ call (inputs [] [] [] [] 9 8 0 2) A.BarredWrap noCounts []
+    ∷ call (inputs (toLe 8 0x3ff0_0000_0000_0000) (old 8) [] [] 9 9 0 2) A.BarredWrap noCounts (old 8)
+    ∷ call (inputs (0 ∷ []) (old 1) [] [] 9 8 0 2) A.BarredWrap noCounts (old 1)
+    ∷ call (inputs (0 ∷ []) (old 4) (0 ∷ []) [] 4 8 0 2) A.BarredWrap noCounts (old 4)
+    ∷ call (inputs [] [] [] [] 9 8 5 2) A.UnknownCode noCounts []
+    -- clamp to a float is permitted
+    ∷ call (inputs [] [] [] [] 9 8 0 1) A.Converted noCounts []
     -- 2: "map key bytes or target bytes not whole elements, or their counts differ"
     ∷ call (inputs (0 ∷ []) (old 3) (0 ∷ []) [] 9 9 0 0) A.BrokenMap noCounts (old 3)
     ∷ call (inputs [] [] (0 ∷ 1 ∷ []) (0 ∷ []) 4 4 0 0) A.BrokenMap noCounts []
@@ -220,8 +227,8 @@ chunks =
     ∷ call (plain (toLe 8 0x4004_0000_0000_0000 ++ toLe 8 0x7ff8_0000_0000_0000) (old 2) 1) (A.NanOrInf 1 0x7ff8_0000_0000_0000) (five 0 0 1 0 0) (2 ∷ 0xa1 ∷ [])
     -- a refused element counts nowhere: 300
     ∷ call (plain (toLe 8 0x4072_c000_0000_0000) (old 1) 0) (A.OutOfRange 0 0x4072_c000_0000_0000 (pos 0) 255) noCounts (old 1)
-    -- 7: "pick past a float target, range code 0 or 2": 1, 2^128 f64 to f32
-    ∷ call (inputs (toLe 8 0x3ff0_0000_0000_0000 ++ toLe 8 0x47f0_0000_0000_0000) (old 8) [] [] 9 8 0 2) (A.FloatOutOfRange 1 0x47f0_0000_0000_0000 0xc7ef_ffff_e000_0000 0x47ef_ffff_e000_0000) (five 0 1 0 0 0) (toLe 4 0x3f80_0000 ++ (0xa4 ∷ 0xa5 ∷ 0xa6 ∷ 0xa7 ∷ []))
+    -- 7: "pick past a float target", "with range code 0 only": 1, 2^128 f64 to f32
+    ∷ call (inputs (toLe 8 0x3ff0_0000_0000_0000 ++ toLe 8 0x47f0_0000_0000_0000) (old 8) [] [] 9 8 0 0) (A.FloatOutOfRange 1 0x47f0_0000_0000_0000 0xc7ef_ffff_e000_0000 0x47ef_ffff_e000_0000) (five 0 1 0 0 0) (toLe 4 0x3f80_0000 ++ (0xa4 ∷ 0xa5 ∷ 0xa6 ∷ 0xa7 ∷ []))
     ∷ []
 
 pub chunks-hold : map (λ (s : Chunk). left (s .inputs)) chunks ≡ map (λ (s : Chunk). s .wanted) chunks

@@ -78,14 +78,14 @@ outside : (k : Kind) (y : ℤ) {C : Type 0} → (InRange k y → ⊥) → (y <�
 outside k y n f g = split y (lowest k) f (λ (l : lowest k ≤ℤ y). split (highest k) y g (λ (m : y ≤ℤ highest k). absurd (n (l, m))))
 
 handled-one : (S : Settings) (k : Kind) (m : OutOfRangeMode) (r r′ : Answer) (v v′ : Value) (i : ℕ) (x y : ℤ) → WellFormed k → Kept r i → (y <ℤ pos 0 → x <ℤ pos 0) → (pos 0 <ℤ y → pos 0 <ℤ x) → (InRange k y → ⊥) → Handled k m r v i x y → Handled k m r′ v′ i x y → v ≡ v′
-handled-one S (integer s n) None r r′ v v′ i x y ok kept a b out h h′ = absurd (refused r i 6 (omega arith) h kept)
+handled-one S (integer s n) None r r′ v v′ i x y ok kept a b out h h′ = absurd (refused r i 6 tt h kept)
 handled-one S (integer s n) Clamp r r′ v v′ i x y ok kept a b out h h′ = outside (integer s n) y out (λ l. h .1 l ∙ sym (h′ .1 l)) (λ l. h .2 l ∙ sym (h′ .2 l))
 handled-one S (integer s n) Wrap r r′ v v′ i x y ok kept a b out h h′ = one-number s n v v′ y ok (h .1) (h′ .1)
-handled-one S (binary p w s) None r r′ v v′ i x y ok kept a b out h h′ = absurd (refused r i 7 (omega arith) h kept)
+handled-one S (binary p w s) None r r′ v v′ i x y ok kept a b out h h′ = absurd (refused r i 7 tt h kept)
 handled-one S (binary p w s) Clamp r r′ v v′ i x y ok kept a b out h h′ = outside (binary p w s) y out
     (λ (l : y <ℤ lowest (binary p w s)). let m = a (omega (ints, low-zero (binary p w s))) in h .1 m ∙ sym (h′ .1 m))
     (λ (l : highest (binary p w s) <ℤ y). let m = b (omega (ints, high-zero (binary p w s))) in h .2 m ∙ sym (h′ .2 m))
-handled-one S (binary p w s) Wrap r r′ v v′ i x y ok kept a b out h h′ = absurd (refused r i 7 (omega arith) h kept)
+handled-one S (binary p w s) Wrap r r′ v v′ i x y ok kept a b out h h′ = absurd h
 
 in-range? : (k : Kind) (y : ℤ) {C : Type 0} → (InRange k y → C) → ((InRange k y → ⊥) → C) → C
 in-range? k y f g = split y (lowest k) (λ (l : y <ℤ lowest k). g (λ (h : InRange k y). omega (ints, h .0)))

@@ -1,5 +1,5 @@
 -- To be believed: the chunk call over its inputs alone: the checks, the answer, and every byte of the destination.
-use mathlib.Core.Bool.{Bool, false, _&&_, cond}
+use mathlib.Core.Bool.{Bool, true, false, _&&_, not, cond}
 use mathlib.Core.List.{List, [], _∷_, _++_}
 use Prim.Native.Nat.{ℕ, zero, suc, _/_, _%_, _<_}
 use lib.Dec.{T, eqb, ltb}
@@ -7,7 +7,7 @@ use lib.ListN.{length, drop}
 use Rattle.bytes_le.specs.Bytes.{toLe, patternAt}
 use Rattle.patterns.specs.Kind.{width}
 use Rattle.patterns.specs.Value.{Value, valueOf}
-use Rattle.kinds.specs.Codes.{kindOf, roundingOf, rangeOf}
+use Rattle.kinds.specs.Codes.{kindOf, roundingOf, rangeOf, wrapBarred}
 use Rattle.counts.specs.Counts.{placeOf}
 use Rattle.counts.specs.declared.Counts.{Counts}
 use Rattle.counts.specs.declared.Fared.{Fared}
@@ -54,11 +54,15 @@ module _ (I : Inputs) where
     entries = entriesFrom sw dw (I .keys) (I .targets) 0 (length (I .keys) / sw);
   }
 
-  -- ---- what the refusals 1 to 4 test
+  -- ---- what the refusals 1 to 4 and 8 test
 
   -- not 1: "a kind, rounding or range code not listed"
   abbrev pub codesListed : Bool
   codesListed = ltb (I .from) 10 && ltb (I .to) 10 && ltb (I .rounding) 5 && ltb (I .range) 3
+
+  -- not 8: "wrap with target kind f32 or f64"
+  abbrev pub wrapPermitted : Bool
+  wrapPermitted = not (wrapBarred (I .to) (I .range))
 
   -- not 2: "map key bytes or target bytes not whole elements, or their counts differ"
   abbrev pub mapWhole : Bool
@@ -72,6 +76,30 @@ module _ (I : Inputs) where
   abbrev pub countsMeet : Bool
   countsMeet = eqb (length (I .source) / sw) (length (I .destination) / dw)
 
+-- ---- the checks before the elements: each with what passes it, and the refusal where it does not
+pub record Check : Type 0 where
+  pub passes : Bool
+  pub refusal : Answer
+
+-- "Numbers 1 to 4 are tested in that order"; 8 "directly after 1"
+abbrev pub checksOf : Inputs → List Check
+checksOf I =
+    record { passes = codesListed I; refusal = A.UnknownCode }
+    ∷ record { passes = wrapPermitted I; refusal = A.BarredWrap }
+    ∷ record { passes = mapWhole I; refusal = A.BrokenMap }
+    ∷ record { passes = bytesWhole I; refusal = A.BrokenElement }
+    ∷ record { passes = countsMeet I; refusal = A.LengthMismatch (length (I .source) / sw I) (length (I .destination) / dw I) }
+    ∷ []
+
+abbrev pub allPass : List Check → Bool
+allPass [] = true
+allPass (c ∷ cs) = c .passes && allPass cs
+
+-- the refusal of the first check that is not passed, or the elements' answer x
+abbrev pub tested : List Check → Answer → Answer
+tested [] x = x
+tested (c ∷ cs) x = cond (c .passes) (tested cs x) (c .refusal)
+
 -- ---- a call that converts patterns in order, whatever its route: over bytes, or over typed slices
 pub record Call : Type 0 where
   pub settings : Settings
@@ -82,7 +110,7 @@ pub record Call : Type 0 where
 unfoldable pub callOf : Inputs → Call
 callOf I = record {
   settings = settingsOf I;
-  passed = codesListed I && mapWhole I && bytesWhole I && countsMeet I;
+  passed = allPass (checksOf I);
   count = length (I .source) / sw I;
   element = patternAt (sw I) (I .source);
 }
@@ -104,7 +132,7 @@ pub record Reached (c : Call) (i : ℕ) : Type 0 where
   pub within : i < c .count
   pub before : (k : ℕ) → k < i → Refuses (outcomeAt c k) → ⊥
 
--- ---- the answer: "Numbers 1 to 4 are tested in that order; then elements by position."
+-- ---- the answer: the checks, "then elements by position"
 
 -- a refusal at i, or the answer of the rest
 abbrev pub answerNext : Outcome → ℕ → Answer → Answer
@@ -119,14 +147,7 @@ answerFrom o i zero = A.Converted
 answerFrom o i (suc n) = answerNext (o i) i (answerFrom o (suc i) n)
 
 unfoldable pub answerOf : Inputs → Answer
-answerOf I =
-    cond (codesListed I)
-    (cond (mapWhole I)
-    (cond (bytesWhole I)
-    (cond (countsMeet I) (answerFrom (outcomeAt (callOf I)) 0 (callOf I .count)) (A.LengthMismatch (length (I .source) / sw I) (length (I .destination) / dw I)))
-    A.BrokenElement)
-    A.BrokenMap)
-    A.UnknownCode
+answerOf I = tested (checksOf I) (answerFrom (outcomeAt (callOf I)) 0 (callOf I .count))
 
 -- ---- the destination: "those before it are converted, it and all later ones untouched"
 
@@ -142,7 +163,7 @@ abbrev pub bytesFrom : (ℕ → Outcome) → ℕ → ℕ → ℕ → List ℕ �
 bytesFrom o w i zero d = d
 bytesFrom o w i (suc n) d = bytesNext (o i) w d (bytesFrom o w (suc i) n (drop w d))
 
--- "Refusals 1 to 4 leave the destination untouched."
+-- "Refusals 1 to 4 leave the destination untouched"; "Like 1 to 4, number 8 leaves all the destination as it was"
 unfoldable pub destinationOf : Inputs → List ℕ
 destinationOf I = cond (callOf I .passed) (bytesFrom (outcomeAt (callOf I)) (dw I) 0 (callOf I .count) (I .destination)) (I .destination)
 
@@ -158,6 +179,7 @@ convertedOf n (A.LengthMismatch s d) = 0
 convertedOf n (A.NanOrInf i v) = i
 convertedOf n (A.OutOfRange i v lo hi) = i
 convertedOf n (A.FloatOutOfRange i v lo hi) = i
+convertedOf n A.BarredWrap = 0
 
 -- whether an element is stored that fared as f
 abbrev pub faredAs : Fared → Outcome → Bool

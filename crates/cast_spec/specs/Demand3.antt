@@ -2,7 +2,7 @@
 use mathlib.Core.Path.{_≡_}
 use mathlib.Core.Bool.{true, false, not}
 use mathlib.Core.List.{List·Memᴰ}
-use Prim.Native.Nat.{ℕ, _*_, _^_, _≤_}
+use Prim.Native.Nat.{ℕ, _*_, _^_}
 use lib.Dec.{T}
 use lib.IntN.{ℤ, pos, _+ℤ_, _*ℤ_}
 use lib.Signed.{_≤ℤ_, _<ℤ_}
@@ -13,7 +13,7 @@ use Rattle.kinds.specs.declared.OutOfRangeMode.{OutOfRangeMode}
 use Rattle.kinds.specs.declared.OutOfRangeMode.the-variants.{None, Clamp, Wrap}
 use Rattle.cast_spec.specs.Element.{Entry, Settings}
 use Rattle.cast_spec.specs.Chunk.{Call, Reached}
-use Rattle.kinds.specs.Answer.{numberOf, positionOf}
+use Rattle.kinds.specs.Answer.{numberOf, namesPosition, positionOf}
 use Rattle.kinds.specs.declared.Answer.{Answer}
 
 -- ---- "any element that the call reaches, finite and matched by no map entry": all by the inputs alone
@@ -34,9 +34,9 @@ Pick S x y = IsPick (gridOf (S .to)) (S .rule) x y
 abbrev pub RefusedBy : ℕ → Answer → ℕ → Type 0
 RefusedBy number r i = (numberOf r ≡ number) × (positionOf r ≡ i)
 
--- no refusal, 5 to 7, names the position
+-- no refusal names the position
 abbrev pub Kept : Answer → ℕ → Type 0
-Kept r i = 5 ≤ numberOf r → positionOf r ≡ i → ⊥
+Kept r i = T (namesPosition (numberOf r)) → positionOf r ≡ i → ⊥
 
 -- v is the "one number congruent to the pick modulo 2^N" of an integer kind
 pub record Congruent (k : Kind) (v : Value) (y : ℤ) : Type 0 where
@@ -46,14 +46,15 @@ pub record Congruent (k : Kind) (v : Value) (y : ℤ) : Type 0 where
   pub turns : ℤ
   pub apart : y ≡ z +ℤ turns *ℤ pos (2 ^ bits k * 2 ^ 1074)
 
--- a pick y past the range, of the element x at i, whose place holds v
+-- a pick y past the range, of the element x at i, whose place holds v. "Settings with range code 2 and a float target shall be turned down": under them
+-- no element is reached.
 abbrev pub Handled : Kind → OutOfRangeMode → Answer → Value → ℕ → ℤ → ℤ → Type 0
 Handled (integer s n) None r v i x y = RefusedBy 6 r i
 Handled (integer s n) Clamp r v i x y = Kept r i × (y <ℤ lowest (integer s n) → v ≡ num (lowest (integer s n))) × (highest (integer s n) <ℤ y → v ≡ num (highest (integer s n)))
 Handled (integer s n) Wrap r v i x y = Kept r i × Congruent (integer s n) v y
 Handled (binary p w s) None r v i x y = RefusedBy 7 r i
 Handled (binary p w s) Clamp r v i x y = Kept r i × (x <ℤ pos 0 → v ≡ inf true) × (pos 0 <ℤ x → v ≡ inf false)
-Handled (binary p w s) Wrap r v i x y = RefusedBy 7 r i
+Handled (binary p w s) Wrap r v i x y = ⊥
 
 -- "The pick is the result unless it lies past the target's finite range; exactly then is the element refused, clamped or wrapped"
 pub record Rounded (S : Settings) (r : Answer) (v : Value) (i : ℕ) (x : ℤ) : Type 0 where

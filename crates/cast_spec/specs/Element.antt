@@ -70,8 +70,9 @@ abbrev pub overrun : Kind → ℕ → ℕ → ℕ → Outcome
 overrun k p w v = FloatOutOfRange v (asF64 k (infinity p w true - 1)) (asF64 k (infinity p w false - 1))
 
 -- a pick y past the range, of an element with the f64 value v and the sign neg.
--- "Range code 0, and 2 with a float target, then refuses the element; 1 clamps it; 2 with an integer target wraps it".
--- A float's clamp "gives the infinity of the element's sign".
+-- "Range code 0 .. then refuses the element; 1 clamps it; 2 with an integer target wraps it". A float's clamp "gives the infinity of the element's sign".
+-- "Settings with range code 2 and a float target shall be turned down": no call that passes its checks asks the last line. It makes the steps total, and is
+-- the Rust's.
 unfoldable pub beyond : Kind → OutOfRangeMode → ℕ → Bool → ℤ → Outcome
 beyond (integer s n) None v neg y = OutOfRange v (lowInt s n) (highInt s n)
 beyond (integer s n) Clamp v neg y = Stored (patternOf (integer s n) neg (nearerEnd (integer s n) y)) Clamped

@@ -25,6 +25,18 @@ fn short() {
     );
 }
 
+// Wrap with a float target: after the codes, and before the map and the elements.
+fn barred() {
+    show(b"wrap to f32, empty chunk\n", b"\x09\x08\x00\x02\x00\x00");
+    show(b"wrap to f64, missing map\n", b"\x09\x09\x00\x02\x01\x00");
+    show(
+        b"wrap to f32, broken element\n",
+        b"\x09\x08\x00\x02\x00\x00\x00",
+    );
+    show(b"wrap to f32, rounding 5\n", b"\x09\x08\x05\x02\x00\x00");
+    show(b"clamp to f32, empty chunk\n", b"\x09\x08\x00\x01\x00\x00");
+}
+
 // Missing map bytes, a broken last element, and empty chunks.
 fn broken() {
     show(
@@ -71,8 +83,8 @@ fn refused() {
         b"\x04\x00\x00\x00\x00\x00\x00\x01\x02\x03\x04\x05\x06\x07\x08\x09\xc8\x00",
     );
     show(
-        b"7 at 1, under wrap\n",
-        b"\x09\x08\x00\x02\x00\x00\x00\x00\x00\x00\x00\x00\xf0\x3f\x00\x00\x00\x00\x00\x00\xf0\x47",
+        b"7 at 1\n",
+        b"\x09\x08\x00\x00\x00\x00\x00\x00\x00\x00\x00\x00\xf0\x3f\x00\x00\x00\x00\x00\x00\xf0\x47",
     );
 }
 
@@ -148,6 +160,7 @@ fn long() {
 
 fn main() {
     short();
+    barred();
     broken();
     refused();
     converted();

@@ -8,7 +8,7 @@ use native.Mathlib.Omega.{arith}
 use lib.Dec.{ltb, eqb}
 use lib.ListN.{length}
 use borrow.Author.Tests.{ltb-true, eq-eqb, eqb-true}
-use Rattle.cast_spec.specs.Chunk.{Inputs, sw, dw, codesListed, mapWhole, bytesWhole, callOf, answerOf, countsOf, destinationOf, countsMeet, outcomeAt, settingsOf, answerFrom, bytesFrom, convertedOf, countsBelow}
+use Rattle.cast_spec.specs.Chunk.{Inputs, sw, dw, codesListed, wrapPermitted, mapWhole, bytesWhole, callOf, answerOf, countsOf, destinationOf, countsMeet, outcomeAt, settingsOf, answerFrom, bytesFrom, convertedOf, countsBelow}
 use Rattle.cast_spec.specs.Contract.{Contract}
 use Rattle.cast_spec.proofs.Contract.{contract}
 use Rattle.kinds.specs.Codes.{kindOf, rangeOf, roundingOf}
@@ -56,7 +56,7 @@ listed-codes f t o g e =
 whole-length : (l w : ℕ) → l % w ≡ 0 → l / w * w ≡ l
 whole-length l w e = sym (add-zero (l / w * w)) ∙ ap (λ (z : ℕ). l / w * w + z) (sym e) ∙ div-add-mod' l w
 
-module _ (I : Inputs) (a : codesListed I ≡ true) (b : mapWhole I ≡ true) (c : bytesWhole I ≡ true) (meet : length (I .source) / sw I ≡ length (I .destination) / dw I) where
+module _ (I : Inputs) (a : codesListed I ≡ true) (w : wrapPermitted I ≡ true) (b : mapWhole I ≡ true) (c : bytesWhole I ≡ true) (meet : length (I .source) / sw I ≡ length (I .destination) / dw I) where
   abbrev s : Settings
   s = settingsBy (I .from) (I .to) (I .rounding) (I .range) (length (I .keys))
 
@@ -109,11 +109,11 @@ module _ (I : Inputs) (a : codesListed I ≡ true) (b : mapWhole I ≡ true) (c 
 
   answer-is : answerFrom (outcomes (settingsOf I) (sw I) (I .source)) 0 n ≡ answerOf I
   unfolding answerOf outcomeAt callOf
-  answer-is = sym (simp (a, b, c, met))
+  answer-is = sym (simp (a, w, b, c, met))
 
   bytes-are : bytesFrom (outcomes (settingsOf I) (sw I) (I .source)) (dw I) 0 n (I .destination) ≡ destinationOf I
   unfolding destinationOf outcomeAt callOf
-  bytes-are = sym (simp (a, b, c, met))
+  bytes-are = sym (simp (a, w, b, c, met))
 
   converted-is : (r : Answer) → r ≡ answerOf I → countsBelow (outcomes (settingsOf I) (sw I) (I .source)) (convertedOf n r) ≡ countsOf I
   unfolding countsOf outcomeAt callOf

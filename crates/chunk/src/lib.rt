@@ -64,7 +64,7 @@ fn whole_map(keys: usize, targets: usize, a: usize, b: usize) -> bool
     false
 }
 
-// Converts a chunk. A refusal 1 to 4 leaves the destination as it was; 5 to 7 leave it so from the refused element on.
+// Converts a chunk. A refusal 1 to 4 or 8 leaves the destination as it was; 5 to 7 leave it so from the refused element on.
 pub fn convert(
     src: &[u8],
     dst: &mut [u8],
@@ -79,6 +79,9 @@ pub fn convert(
 {
     if !kinds::codes_listed(from, to, rounding, range) {
         return refused(Answer::UnknownCode);
+    }
+    if kinds::wrap_barred(to, range) {
+        return refused(Answer::BarredWrap);
     }
     let s = settings_of(from, to, rounding, range, keys.len());
     if !whole_map(keys.len(), targets.len(), s.sw, s.dw) {

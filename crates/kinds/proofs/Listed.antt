@@ -1,13 +1,14 @@
 -- The listed kinds: what the row of a code has, and that it gives its kind back.
 use mathlib.Core.Path.{_≡_, refl, sym, ap, subst}
-use mathlib.Core.Bool.{Bool, true, false}
+use mathlib.Core.Bool.{Bool, true, false, cond}
 use mathlib.Core.Logic.{inl, inr}
 use Prim.Native.Nat.{ℕ, _-_, _*_, _^_, _≤_, _<_}
 use native.Mathlib.Omega.{arith}
+use lib.Dec.{eqb, leb}
 use lib.Pow.{pow-mono, pow-pos}
-use borrow.Author.Tests.{le-ltb, lt-ltb}
+use borrow.Author.Tests.{le-ltb, lt-ltb, le-leb, lt-leb}
 use Rattle.grid.proofs.Neighbours.{cut}
-use Rattle.patterns.specs.Kind.{Kind, integer, f32, f64, width}
+use Rattle.patterns.specs.Kind.{Kind, integer, f32, f64, isFloat, width}
 use Rattle.kinds.specs.Codes.{kindOf}
 use Rattle.kinds.specs.Row.{integerFormat, formatOf, rowOf, kindIn, IntegerRow, FormatRow}
 use Rattle.kinds.specs.declared.KindRow.{KindRow}
@@ -33,6 +34,21 @@ by-kind P i f g code h = cut code 4
 
     nine : 9 ≤ code → code < 10 → 9 ≡ code
     nine m n = omega arith
+
+-- the codes of the float kinds are those from 8 on
+pub float-from-8 : (code : ℕ) → leb 8 code ≡ isFloat (kindOf code)
+float-from-8 code = cut code 8
+    (λ (l : code < 8). cut code 4
+    (λ (m : code < 4). simp (lt-leb 8 code l, lt-ltb code 4 m))
+    (λ (m : 4 ≤ code). simp (lt-leb 8 code l, le-ltb code 4 m, lt-ltb code 8 l)))
+    (λ (l : 8 ≤ code). simp (le-leb 8 code l, le-ltb code 4 (four l), le-ltb code 8 l) (by-last (eqb code 8)))
+  where
+    four : 8 ≤ code → 4 ≤ code
+    four l = omega arith
+
+    by-last : (b : Bool) → true ≡ isFloat (cond b f32 f64)
+    by-last true = refl
+    by-last false = refl
 
 -- ---- the row
 integer-row : (s : Bool) (c : ℕ) → c < 4 → IntegerRow (integerFormat s (8 * 2 ^ c))

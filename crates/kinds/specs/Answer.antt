@@ -1,11 +1,13 @@
 -- To be believed: the papers' number and values for each case of an answer, and of what one element comes to.
+use mathlib.Core.Bool.{Bool, _&&_, not}
 use Prim.Native.Nat.{ℕ}
+use lib.Dec.{ltb, leb}
 use Rattle.patterns.specs.Pattern.{lowBits}
 use Rattle.counts.specs.Counts.{noCounts}
 use Rattle.kinds.specs.declared.Outcome.{Outcome}
 use Rattle.kinds.specs.declared.Outcome.the-variants as O
 use Rattle.kinds.specs.declared.Answer.{Answer}
-use Rattle.kinds.specs.declared.Answer.the-variants.{Converted, UnknownCode, BrokenMap, BrokenElement, LengthMismatch, NanOrInf, OutOfRange, FloatOutOfRange}
+use Rattle.kinds.specs.declared.Answer.the-variants.{Converted, UnknownCode, BrokenMap, BrokenElement, LengthMismatch, NanOrInf, OutOfRange, FloatOutOfRange, BarredWrap}
 use Rattle.kinds.specs.declared.Reply.{Reply}
 
 -- ---- the column "number" of the table "What the chunk call answers"; 0 where all is converted
@@ -18,6 +20,15 @@ numberOf (LengthMismatch s d) = 4
 numberOf (NanOrInf i v) = 5
 numberOf (OutOfRange i v lo hi) = 6
 numberOf (FloatOutOfRange i v lo hi) = 7
+numberOf BarredWrap = 8
+
+-- ---- what a refusal leaves: "Refusals 5 to 7 concern the first bad element", and name its position
+abbrev pub namesPosition : ℕ → Bool
+namesPosition n = leb 5 n && leb n 7
+
+-- "Refusals 1 to 4 leave the destination untouched"; "Like 1 to 4, number 8 leaves all the destination as it was": every refusal that names no position
+abbrev pub leavesAll : ℕ → Bool
+leavesAll n = ltb 0 n && not (namesPosition n)
 
 -- ---- the column "returned": what comes back beside the number, each value as 64 bits, and 0 where an answer has no such value
 pub record Values : Type 0 where
@@ -49,6 +60,7 @@ valuesOf (LengthMismatch s d) = bothCounts s d
 valuesOf (NanOrInf i v) = elementValues i v 0 0
 valuesOf (OutOfRange i v lo hi) = elementValues i v (lowBits 64 lo) hi
 valuesOf (FloatOutOfRange i v lo hi) = elementValues i v lo hi
+valuesOf BarredWrap = noValues
 
 abbrev pub positionOf : Answer → ℕ
 positionOf r = valuesOf r .position
@@ -66,6 +78,6 @@ outcomeValues i (O.NanOrInf v) = elementValues i v 0 0
 outcomeValues i (O.OutOfRange v lo hi) = elementValues i v (lowBits 64 lo) hi
 outcomeValues i (O.FloatOutOfRange v lo hi) = elementValues i v lo hi
 
--- ---- "Refusals 1 to 4 give five zeros."
+-- ---- "Refusals 1 to 4 give five zeros"; "Like 1 to 4, number 8 .. gives five zeros"
 abbrev pub unconverted : Answer → Reply
 unconverted a = record { answer = a; counts = noCounts }

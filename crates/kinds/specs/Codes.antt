@@ -1,10 +1,10 @@
 -- To be believed: the codes of a call: kinds, roundings and range choices.
-use mathlib.Core.Bool.{true, false, cond}
+use mathlib.Core.Bool.{Bool, true, false, _&&_, cond}
 use Prim.Native.Nat.{ℕ, zero, suc, _-_, _*_, _^_}
 use lib.Dec.{eqb, ltb}
 use Rattle.grid.specs.declared.RoundingMode.{RoundingMode}
 use Rattle.grid.specs.declared.RoundingMode.the-variants.{NearestEven, TowardsZero, TowardsPositive, TowardsNegative, NearestAway}
-use Rattle.patterns.specs.Kind.{Kind, integer, f32, f64}
+use Rattle.patterns.specs.Kind.{Kind, integer, f32, f64, isFloat}
 use Rattle.kinds.specs.declared.OutOfRangeMode.{OutOfRangeMode}
 use Rattle.kinds.specs.declared.OutOfRangeMode.the-variants.{None, Clamp, Wrap}
 
@@ -25,3 +25,7 @@ abbrev pub rangeOf : ℕ → OutOfRangeMode
 rangeOf zero = None
 rangeOf (suc zero) = Clamp
 rangeOf (suc (suc n)) = Wrap
+
+-- "wrap with target kind f32 or f64", which the codec text does not permit
+abbrev pub wrapBarred : ℕ → ℕ → Bool
+wrapBarred to range = eqb range 2 && isFloat (kindOf to)

@@ -3,9 +3,9 @@ ghost use mathlib.Core.Path.{_≡_};
 ghost use mathlib.Core.Bool.{_&&_};
 ghost use Prim.Native.Nat.{_<_};
 ghost use lib.Dec.{ltb};
-ghost use Rattle.kinds.specs.Codes.{kindOf, roundingOf, rangeOf};
+ghost use Rattle.kinds.specs.Codes.{kindOf, roundingOf, rangeOf, wrapBarred};
 ghost use Rattle.kinds.specs.Row.{rowOf};
-ghost use Rattle.kinds.specs.Answer.{numberOf, positionOf};
+ghost use Rattle.kinds.specs.Answer.{numberOf, positionOf, namesPosition};
 use counts::Counts;
 use counts::Fared;
 use grid::RoundingMode;
@@ -31,7 +31,7 @@ pub enum Lookup {
     Missing,
 }
 
-// What a chunk call answers: all converted, or one of the seven refusals in the order of their numbers.
+// What a chunk call answers: all converted, or one of the eight refusals in the order of their numbers.
 pub enum Answer {
     Converted,
     UnknownCode,
@@ -57,6 +57,7 @@ pub enum Answer {
         lo: u64,
         hi: u64,
     },
+    BarredWrap,
 }
 
 // What a call returns: its answer, and how the elements fared that it converted.
@@ -106,6 +107,16 @@ const LISTED_KINDS: u8 = 10;
 const LISTED_ROUNDINGS: u8 = 5;
 
 const LISTED_RANGES: u8 = 3;
+
+// The range code of wrap, and the first kind code of a float: those from there on are floats.
+const WRAP: u8 = 2;
+
+const FIRST_FLOAT: u8 = 8;
+
+// The refusals that name the position of an element, from the first to the last.
+const FIRST_AT_ELEMENT: usize = 5;
+
+const LAST_AT_ELEMENT: usize = 7;
 
 // ---- the formats of the ten kinds
 
@@ -246,6 +257,16 @@ pub fn codes_listed(from: u8, to: u8, rounding: u8, range: u8) -> bool
     rules_listed(rounding, range)
 }
 
+// Whether the codes ask for wrap with a float target.
+pub fn wrap_barred(to: u8, range: u8) -> bool
+    ensures { λ r. ⌜ r ≡ wrapBarred to range ⌝ }
+{
+    if range != WRAP {
+        return false;
+    }
+    FIRST_FLOAT <= to
+}
+
 // The row of a listed kind code.
 pub fn row_of(code: u8) -> KindRow
     requires { ⌜ code < 10 ⌝ }
@@ -288,7 +309,7 @@ pub fn mapped(target: u64) -> Fit
     }
 }
 
-// The number of an answer, 0 to 7.
+// The number of an answer, 0 to 8.
 pub fn number(a: Answer) -> u8
     ensures { λ r. ⌜ r ≡ numberOf a ⌝ }
 {
@@ -317,7 +338,18 @@ pub fn number(a: Answer) -> u8
             lo: _,
             hi: _,
         } => 7,
+        Answer::BarredWrap => 8,
     }
+}
+
+// Whether an answer of this number names the position of an element; a refusal that names none leaves all the destination as it was.
+pub fn names_position(number: usize) -> bool
+    ensures { λ r. ⌜ r ≡ namesPosition number ⌝ }
+{
+    if number < FIRST_AT_ELEMENT {
+        return false;
+    }
+    number <= LAST_AT_ELEMENT
 }
 
 // The position of the element that an answer refuses, and 0 of an answer that names none.
@@ -346,5 +378,6 @@ pub fn position(a: Answer) -> usize
             src_len: _,
             dst_len: _,
         } => 0,
+        Answer::BarredWrap => 0,
     }
 }

@@ -16,7 +16,7 @@ use Rattle.kinds.specs.Codes.{kindOf}
 use Rattle.kinds.specs.Row.{rowOf}
 use Rattle.kinds.specs.declared.KindRow.{KindRow}
 use Rattle.kinds.proofs.Listed.{row-width}
-use Rattle.cast_spec.specs.Chunk.{codesListed}
+use Rattle.cast_spec.specs.Chunk.{codesListed, wrapPermitted}
 use Rattle.chunk.proofs.Exits.{listed-codes}
 use Rattle.listing.specs.declared.Layout.{Layout}
 use Rattle.report.specs.Report.{refusedLine}
@@ -59,10 +59,14 @@ module _ (s : List ℕ) where
       pub head-in : HeadIn s
       head-in = let c = listed-codes (getD s 0 0) (getD s 1 0) (getD s 2 0) (getD s 3 0) a in record { six = six; from = c .0; to = c .1 }
 
-      module _ (m : ℕ) (ends : m ≡ mapEnd s) where
+      pub barred : wrapPermitted (call s) ≡ false → 8 ≡ refusalOf s
+      unfolding refusalOf
+      barred w = sym (simp (le-ltb (length s) 6 six, a, w))
+
+      module _ (w : wrapPermitted (call s) ≡ true) (m : ℕ) (ends : m ≡ mapEnd s) where
         pub map-past : 8192 < m → 2 ≡ refusalOf s
         unfolding refusalOf
-        map-past h = sym (simp (le-ltb (length s) 6 six, a, lt-leb (mapEnd s) 8192 (subst (λ (z : ℕ). 8192 < z) ends h)))
+        map-past h = sym (simp (le-ltb (length s) 6 six, a, w, lt-leb (mapEnd s) 8192 (subst (λ (z : ℕ). 8192 < z) ends h)))
 
         module _ (near : m ≤ 8192) where
           near-leb : leb (mapEnd s) 8192 ≡ true
@@ -70,7 +74,7 @@ module _ (s : List ℕ) where
 
           pub map-missing : length s < m → 2 ≡ refusalOf s
           unfolding refusalOf
-          map-missing h = sym (simp (le-ltb (length s) 6 six, a, near-leb, lt-leb (mapEnd s) (length s) (subst (λ (z : ℕ). length s < z) ends h)))
+          map-missing h = sym (simp (le-ltb (length s) 6 six, a, w, near-leb, lt-leb (mapEnd s) (length s) (subst (λ (z : ℕ). length s < z) ends h)))
 
           module _ (there : m ≤ length s) where
             there-leb : leb (mapEnd s) (length s) ≡ true
@@ -78,28 +82,29 @@ module _ (s : List ℕ) where
 
             pub longer : 8192 < length s → 3 ≡ refusalOf s
             unfolding refusalOf
-            longer h = sym (simp (le-ltb (length s) 6 six, a, near-leb, there-leb, lt-leb (length s) 8192 h))
+            longer h = sym (simp (le-ltb (length s) 6 six, a, w, near-leb, there-leb, lt-leb (length s) 8192 h))
 
             pub none : length s ≤ 8192 → 0 ≡ refusalOf s
             unfolding refusalOf
-            none h = sym (simp (le-ltb (length s) 6 six, a, near-leb, there-leb, le-leb (length s) 8192 h))
+            none h = sym (simp (le-ltb (length s) 6 six, a, w, near-leb, there-leb, le-leb (length s) 8192 h))
 
 -- ---- what no refusal tells of an input
-abbrev numbered : Bool → Bool → Bool → Bool → Bool → ℕ
-numbered a b c d e = cond a 1 (cond b (cond (c && d) (cond e 0 3) 2) 1)
+abbrev numbered : Bool → Bool → Bool → Bool → Bool → Bool → ℕ
+numbered a b w c d e = cond a 1 (cond b (cond w (cond (c && d) (cond e 0 3) 2) 8) 1)
 
-by-checks : (a b c d e : Bool) → numbered a b c d e ≡ 0 → (a ≡ false) × (b ≡ true) × (d ≡ true) × (e ≡ true)
-by-checks true b c d e z = absurd (omega arith)
-by-checks false false c d e z = absurd (omega arith)
-by-checks false true false d e z = absurd (omega arith)
-by-checks false true true false e z = absurd (omega arith)
-by-checks false true true true false z = absurd (omega arith)
-by-checks false true true true true z = (refl, refl, refl, refl)
+by-checks : (a b w c d e : Bool) → numbered a b w c d e ≡ 0 → (a ≡ false) × (b ≡ true) × (d ≡ true) × (e ≡ true)
+by-checks true b w c d e z = absurd (omega arith)
+by-checks false false w c d e z = absurd (omega arith)
+by-checks false true false c d e z = absurd (omega arith)
+by-checks false true true false d e z = absurd (omega arith)
+by-checks false true true true false e z = absurd (omega arith)
+by-checks false true true true true false z = absurd (omega arith)
+by-checks false true true true true true z = (refl, refl, refl, refl)
 
 module _ (s : List ℕ) (z : refusalOf s ≡ 0) where
   checks : (ltb (length s) 6 ≡ false) × (codesListed (call s) ≡ true) × (leb (mapEnd s) (length s) ≡ true) × (leb (length s) 8192 ≡ true)
   unfolding refusalOf
-  checks = by-checks (ltb (length s) 6) (codesListed (call s)) (leb (mapEnd s) 8192) (leb (mapEnd s) (length s)) (leb (length s) 8192) z
+  checks = by-checks (ltb (length s) 6) (codesListed (call s)) (wrapPermitted (call s)) (leb (mapEnd s) 8192) (leb (mapEnd s) (length s)) (leb (length s) 8192) z
 
   pub six : 6 ≤ length s
   six = ltb-false (length s) 6 (checks .0)
@@ -155,17 +160,18 @@ module _ (s : List ℕ) (z : refusalOf s ≡ 0) where
 
 -- ---- what a refusal tells
 module _ (s : List ℕ) (number : ℕ) (is : number ≡ refusalOf s) where
-  few : (a b c d e : Bool) → numbered a b c d e < 10
-  few true b c d e = omega arith
-  few false false c d e = omega arith
-  few false true false d e = omega arith
-  few false true true false e = omega arith
-  few false true true true false = omega arith
-  few false true true true true = omega arith
+  few : (a b w c d e : Bool) → numbered a b w c d e < 10
+  few true b w c d e = omega arith
+  few false false w c d e = omega arith
+  few false true false c d e = omega arith
+  few false true true false d e = omega arith
+  few false true true true false e = omega arith
+  few false true true true true false = omega arith
+  few false true true true true true = omega arith
 
   pub refusal-small : number < 10
   unfolding refusalOf
-  refusal-small = subst (λ (z : ℕ). z < 10) (sym is) (few (ltb (length s) 6) (codesListed (call s)) (leb (mapEnd s) 8192) (leb (mapEnd s) (length s)) (leb (length s) 8192))
+  refusal-small = subst (λ (z : ℕ). z < 10) (sym is) (few (ltb (length s) 6) (codesListed (call s)) (wrapPermitted (call s)) (leb (mapEnd s) 8192) (leb (mapEnd s) (length s)) (leb (length s) 8192))
 
   pub refusal-listed : (number ≡ 0 → ⊥) → refusedLine number 0 ≡ listingOf s
   unfolding listingOf

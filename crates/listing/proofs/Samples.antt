@@ -36,6 +36,10 @@ samples =
     -- "Fewer than six bytes prints `refused 1`"; a bad code "comes before these last two"
     ∷ row (9 ∷ 4 ∷ 0 ∷ 0 ∷ 0 ∷ []) (end (refused ++ (49 ∷ [])))
     ∷ row (head 9 4 0 3 1) (end (refused ++ (49 ∷ [])))
+    -- 8 "directly after 1", before missing map bytes: `refused 8`, with no position; a bad rounding code comes before it
+    ∷ row (head 9 8 0 2 0) (end (refused ++ (56 ∷ [])))
+    ∷ row (head 9 9 0 2 1 ++ toLe 9 0) (end (refused ++ (56 ∷ [])))
+    ∷ row (head 9 8 5 2 0) (end (refused ++ (49 ∷ [])))
     -- "missing map bytes `refused 2`"
     ∷ row (head 9 4 0 0 1 ++ toLe 8 0) (end (refused ++ (50 ∷ [])))
     -- "a broken last element .. `refused 3`"

@@ -1,7 +1,7 @@
 -- What stands in the destination before a call shows in no line of the report, and a position lies before the count.
 use mathlib.Core.Path.{_≡_, refl, sym, ap, subst, _∙_}
 use mathlib.Core.Bool.{Bool, true, false, _&&_, cond}
-use mathlib.Core.List.{List, [], _++_}
+use mathlib.Core.List.{List, [], _∷_, _++_}
 use Prim.Native.Nat.{ℕ, zero, suc, _+_, _-_, _/_, _≤_}
 use native.Mathlib.Nat.{sub-zero, zero-add}
 use native.Mathlib.Omega.{arith}
@@ -10,10 +10,10 @@ use Rattle.bytes_le.specs.Bytes.{toLe, patternAt}
 use Rattle.bytes_le.proofs.Places.{first-place, next-place}
 use Rattle.kinds.specs.Answer.{numberOf, positionOf}
 use Rattle.kinds.specs.declared.Answer.{Answer}
-use Rattle.kinds.specs.declared.Answer.the-variants as A
 use Rattle.kinds.specs.declared.Outcome.{Outcome}
 use Rattle.kinds.specs.declared.Outcome.the-variants.{Stored, NanOrInf, OutOfRange, FloatOutOfRange}
-use Rattle.cast_spec.specs.Chunk.{Inputs, inputs, sw, dw, codesListed, mapWhole, bytesWhole, countsMeet, callOf, settingsOf, outcomeAt, answerNext, answerFrom, answerOf, bytesNext, bytesFrom, destinationOf}
+use Rattle.cast_spec.specs.Chunk.{Inputs, inputs, sw, dw, Check, checksOf, allPass, tested, callOf, settingsOf, outcomeAt, answerNext, answerFrom, answerOf, bytesNext, bytesFrom, destinationOf}
+use Rattle.cast_spec.proofs.Checks.{EachRefusal, tested-by}
 use Rattle.report.specs.Report.{converted, firstLine, line, lines, report}
 use Rattle.listing.specs.Listing.{reportOf}
 
@@ -104,30 +104,21 @@ module _ (o : ℕ → Outcome) (w : ℕ) where
   same-from-first n d d′ = subst (λ (k : ℕ). lines w (bytesFrom o w 0 n d) 0 k ≡ lines w (bytesFrom o w 0 n d′) 0 k) (sub-zero (shown (answerFrom o 0 n) (0 + n)) ∙ ap (shown (answerFrom o 0 n)) (zero-add n)) (same-lines 0 n d d′)
 
 -- ---- the whole call, by its checks
-module _ (R x₁ x₂ x₃ x₄ : Answer) where
-  abbrev checked : Bool → Bool → Bool → Bool → Answer
-  checked a b c e = cond a (cond b (cond c (cond e R x₄) x₃) x₂) x₁
-
-position-checked : (n m k : ℕ) (R : Answer) → positionOf R ≤ n → (a b c e : Bool) → positionOf (checked R A.UnknownCode A.BrokenMap A.BrokenElement (A.LengthMismatch m k) a b c e) ≤ n
-position-checked n m k R h true true true true = h
-position-checked n m k R h true true true false = omega arith
-position-checked n m k R h true true false e = omega arith
-position-checked n m k R h true false c e = omega arith
-position-checked n m k R h false b c e = omega arith
-
-lines-checked : (w n m k : ℕ) (R : Answer) (W W′ d d′ : List ℕ) → lines w W 0 (shown R n) ≡ lines w W′ 0 (shown R n) → (a b c e : Bool)
-    → let r = checked R A.UnknownCode A.BrokenMap A.BrokenElement (A.LengthMismatch m k) a b c e in lines w (cond (a && b && c && e) W d) 0 (shown r n) ≡ lines w (cond (a && b && c && e) W′ d′) 0 (shown r n)
-lines-checked w n m k R W W′ d d′ h true true true true = h
-lines-checked w n m k R W W′ d d′ h true true true false = refl
-lines-checked w n m k R W W′ d d′ h true true false e = refl
-lines-checked w n m k R W W′ d d′ h true false c e = refl
-lines-checked w n m k R W W′ d d′ h false b c e = refl
+lines-checked : (w n : ℕ) (cs : List Check) (R : Answer) (W W′ d d′ : List ℕ) → EachRefusal (λ (r : Answer). shown r n ≡ 0) cs → lines w W 0 (shown R n) ≡ lines w W′ 0 (shown R n)
+    → lines w (cond (allPass cs) W d) 0 (shown (tested cs R) n) ≡ lines w (cond (allPass cs) W′ d′) 0 (shown (tested cs R) n)
+lines-checked w n [] R W W′ d d′ none h = h
+lines-checked w n (c ∷ cs) R W W′ d d′ none h = go (c .passes) (lines-checked w n cs R W W′ d d′ (none .1) h)
+  where
+    go : (b : Bool) → lines w (cond (allPass cs) W d) 0 (shown (tested cs R) n) ≡ lines w (cond (allPass cs) W′ d′) 0 (shown (tested cs R) n)
+        → lines w (cond (b && allPass cs) W d) 0 (shown (cond b (tested cs R) (c .refusal)) n) ≡ lines w (cond (b && allPass cs) W′ d′) 0 (shown (cond b (tested cs R) (c .refusal)) n)
+    go true f = f
+    go false f = ap (lines w d 0) (none .0) ∙ sym (ap (lines w d′ 0) (none .0))
 
 pub position-counted : (I : Inputs) → positionOf (answerOf I) ≤ length (I .source) / sw I
 unfolding answerOf callOf
 position-counted I =
     let n = length (I .source) / sw I in
-    position-checked n n (length (I .destination) / dw I) (answerFrom (outcomeAt (callOf I)) 0 n) (omega (arith, position-before (outcomeAt (callOf I)) (dw I) 0 n)) (codesListed I) (mapWhole I) (bytesWhole I) (countsMeet I)
+    tested-by (λ (r : Answer). positionOf r ≤ n) (checksOf I) _ (omega arith, (omega arith, (omega arith, (omega arith, (omega arith, tt))))) (λ _. omega (arith, position-before (outcomeAt (callOf I)) (dw I) 0 n))
 
 module _ (src d d′ keys targets : List ℕ) (f t o g : ℕ) (same : length d ≡ length d′) where
   abbrev I : Inputs
@@ -146,7 +137,7 @@ module _ (src d d′ keys targets : List ℕ) (f t o g : ℕ) (same : length d �
       let n = length src / sw I in
       let c = outcomeAt (callOf I′) in
       rw same
-      (lines-checked (dw I) n n (length d′ / dw I) (answerFrom c 0 n) (bytesFrom c (dw I) 0 n d) (bytesFrom c (dw I) 0 n d′) d d′ (same-from-first c (dw I) n d d′) (codesListed I) (mapWhole I) (bytesWhole I′) (countsMeet I′))
+      (lines-checked (dw I) n (checksOf I′) (answerFrom c 0 n) (bytesFrom c (dw I) 0 n d) (bytesFrom c (dw I) 0 n d′) d d′ (refl, (refl, (refl, (refl, (refl, tt))))) (same-from-first c (dw I) n d d′))
 
   pub same-report : reportOf I ≡ reportOf I′
   same-report =

@@ -8,7 +8,7 @@ use lib.ListN.{length, getD, take, drop, replicate}
 use Rattle.bytes_le.specs.Bytes.{fromLe}
 use Rattle.patterns.specs.Kind.{width}
 use Rattle.kinds.specs.Codes.{kindOf}
-use Rattle.cast_spec.specs.Chunk.{Inputs, inputs, sw, dw, codesListed, answerOf, destinationOf}
+use Rattle.cast_spec.specs.Chunk.{Inputs, inputs, sw, dw, codesListed, wrapPermitted, answerOf, destinationOf}
 use Rattle.report.specs.Report.{refusedLine, report}
 
 -- the chunk call into zeros, as many elements as the source; what stands there before the call shows in no line
@@ -52,14 +52,16 @@ reportOf I = report (answerOf I) (length (I .source) / sw I) (dw I) (destination
 
 -- ---- "Fewer than six bytes prints `refused 1`, missing map bytes `refused 2`, a broken last element or longer input `refused 3`;
 -- a bad code comes before these last two. A map reaching past byte 8,192 counts as missing."
--- The number that an input is refused with before its call, or 0. The chunk call refuses a broken last element, as 3.
+-- 8 comes "directly after 1". The number that an input is refused with before its call, or 0. The chunk call refuses a broken last element, as 3.
 unfoldable pub refusalOf : List ℕ → ℕ
 refusalOf s =
     cond (ltb (length s) 6) 1
     (cond (codesListed (call s))
+    (cond (wrapPermitted (call s))
     (cond (leb (mapEnd s) 8192 && leb (mapEnd s) (length s))
     (cond (leb (length s) 8192) 0 3)
     2)
+    8)
     1)
 
 unfoldable pub listingOf : List ℕ → List ℕ

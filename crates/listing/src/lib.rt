@@ -69,6 +69,9 @@ fn refusal(input: &[u8]) -> usize
     if !kinds::codes_listed(input[0], input[1], input[2], input[3]) {
         return 1;
     }
+    if kinds::wrap_barred(input[1], input[3]) {
+        return 8;
+    }
     let map_end = layout_of(input).elements;
     if 8192 < map_end {
         return 2;

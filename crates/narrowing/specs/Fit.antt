@@ -20,7 +20,7 @@ use Rattle.floats.specs.declared.Class.{Class}
 use Rattle.floats.specs.declared.Class.the-variants.{Finite, Infinite, NotANumber}
 use Rattle.floats.specs.declared.Float.{Float}
 
--- bits that reach an infinity's, by the range choice
+-- bits that reach an infinity's, by the range choice; a call that asks for wrap to a float is refused before its elements, and the last line makes this total
 abbrev pub overrunFit : ℕ → ℕ → Bool → OutOfRangeMode → Fit
 overrunFit p w neg None = OutOfRange
 overrunFit p w neg Clamp = Pattern (infinity p w neg) Clamped

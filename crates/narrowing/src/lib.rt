@@ -52,7 +52,7 @@ fn quiet_fraction(fraction: u64, p: u32) -> u64
 }
 
 // The bits below a sign as a pattern of the format of p significant bits and w bits of exponent field, by the range choice where they reach an
-// infinity's.
+// infinity's. Wrap, with which no call comes here, does as none.
 fn fit_bits(
     bits: u64,
     ternary: Ternary,

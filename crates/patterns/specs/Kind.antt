@@ -19,6 +19,10 @@ f32 = binary 24 8 925
 abbrev pub f64 : Kind
 f64 = binary 53 11 0
 
+abbrev pub isFloat : Kind → Bool
+isFloat (integer s n) = false
+isFloat (binary p w s) = true
+
 abbrev pub bits : Kind → ℕ
 bits (integer s n) = n
 bits (binary p w s) = w + p

@@ -86,7 +86,11 @@ fn same_values(head: &[u8; 46], number: u8, fields: &[u64; 11]) -> bool {
         return false;
     }
     let second = if number == 4 { fields[1] } else { fields[3] };
-    let kind = if 5 <= number { 9 } else { 0 };
+    let kind = if kinds::names_position(number as usize) {
+        9
+    } else {
+        0
+    };
     if !same(kind, second, number_at(head, 22, 8)) {
         return false;
     }
@@ -128,21 +132,21 @@ fn same_destination(to: u8, number: u8, a: &[u8], b: &[u8]) -> bool {
     if number == 0 {
         return same_elements(to, width(to), a, b);
     }
-    if 5 <= number {
+    if kinds::names_position(number as usize) {
         return same_elements(to, width(to), a, b);
     }
     same_elements(0, 1, a, b)
 }
 
-// Adds a case to the calls of its section, at 0 to 4, and to the differences, at 5 to 9.
-fn count(counts: &mut [u64; 10], section: u8, good: bool) {
-    if 5 <= section {
+// Adds a case to the calls of its section, at 0 to 5, and to the differences, at 6 to 11.
+fn count(counts: &mut [u64; 12], section: u8, good: bool) {
+    if 6 <= section {
         return;
     }
     let i = section as usize;
     counts[i] = std::num::wrapping_add_u64(counts[i], 1);
     if !good {
-        counts[i + 5] = std::num::wrapping_add_u64(counts[i + 5], 1);
+        counts[i + 6] = std::num::wrapping_add_u64(counts[i + 6], 1);
     }
 }
 
@@ -169,7 +173,7 @@ fn replay_body(
     a: usize,
     c: usize,
     d: usize,
-    counts: &mut [u64; 10],
+    counts: &mut [u64; 12],
 ) -> bool
     requires { ⌜ a + c + d ≤ length (now body) ⌝ }
 {
@@ -182,7 +186,7 @@ fn replay_body(
 }
 
 // Reads a case and replays it; false at the end of the list, or where a case is cut short or too long.
-fn replay_case(fd: i32, counts: &mut [u64; 10]) -> bool {
+fn replay_case(fd: i32, counts: &mut [u64; 12]) -> bool {
     let mut head = [0u8; 46];
     if io::read_full(fd, &mut head) != 46 {
         return false;
@@ -210,7 +214,7 @@ fn replay_case(fd: i32, counts: &mut [u64; 10]) -> bool {
 }
 
 // Replays the list to its end. Nothing says that a file ends, so the turns are counted down.
-fn replay(fd: i32, counts: &mut [u64; 10]) {
+fn replay(fd: i32, counts: &mut [u64; 12]) {
     let mut turns = u64::MAX;
     while turns > 0 && replay_case(fd, counts) {
         turns -= 1;
@@ -227,22 +231,27 @@ fn say(name: &[u8], calls: u64, differences: u64) {
     io::write_all(STDOUT_FILENO, b" differences\n");
 }
 
-// Replays the list and writes a line for each of its four sections.
+// Replays the list and writes a line for each of its five sections.
 fn main() {
     let fd = os::open_read(b"list");
     if fd < 0 {
         os::fail(b"list");
         return;
     }
-    let mut counts = [0u64; 10];
+    let mut counts = [0u64; 12];
     replay(fd, &mut counts);
     libc::close(fd);
-    say(b"accepted elements, every setting", counts[1], counts[6]);
+    say(
+        b"accepted elements, every setting without wrap to a float",
+        counts[1],
+        counts[7],
+    );
     say(
         b"refused elements, first, between and last",
         counts[2],
-        counts[7],
+        counts[8],
     );
-    say(b"maps", counts[3], counts[8]);
-    say(b"broken lengths and bad codes", counts[4], counts[9]);
+    say(b"maps", counts[3], counts[9]);
+    say(b"broken lengths and bad codes", counts[4], counts[10]);
+    say(b"wrap with a float target", counts[5], counts[11]);
 }

@@ -1,14 +1,14 @@
 -- The lines of a report, part by part, and the room that they take.
 use mathlib.Core.Path.{_≡_, refl, sym, ap, subst, _∙_}
-use mathlib.Core.Bool.{Bool, cond}
+use mathlib.Core.Bool.{Bool, true, false, cond}
 use mathlib.Core.List.{List, [], _++_, append-assoc, append-nil}
 use Prim.Native.Nat.{ℕ, zero, suc, _+_, _*_, _≤_, _<_}
 use native.Mathlib.Nat.{add-zero, le-refl, le-trans, le-of-eq, mul-le-mul-right, suc-mul, zero-add}
 use native.Mathlib.Numerals.{add-one}
 use native.Mathlib.Omega.{arith}
 use lib.ListN.{length, take, drop, length-append}
-use borrow.Author.Tests.{lt-ltb, le-ltb}
 use Rattle.bytes_le.specs.Bytes.{fromLe, patternAt}
+use Rattle.kinds.specs.Answer.{namesPosition}
 use Rattle.text.specs.Text.{digits, decimal}
 use Rattle.text.specs.Wrote.{Wrote}
 use Rattle.report.specs.Report.{ok, refused, at, newline, okLine, refusedLine, line, lines}
@@ -30,8 +30,8 @@ module _ (d : List ℕ) (r : ℕ) (d₁ : List ℕ) (number q : ℕ) (d₂ : Lis
   number-room = omega (arith, w .next, v .next, wrote-length w, wrote-length v, decimal-one number small)
 
   module _ (position p : ℕ) (d₃ : List ℕ) where
-    pub refused-plain : number < 5 → Wrote d₂ q newline p d₃ → Wrote d 0 (refusedLine number position) p d₃
-    refused-plain h u = subst (λ (t : Bool). Wrote d 0 (refused ++ (decimal number ++ (cond t [] (at ++ decimal position) ++ newline))) p d₃) (sym (lt-ltb number 5 h)) (wrote-then w (wrote-then v u))
+    pub refused-plain : namesPosition number ≡ false → Wrote d₂ q newline p d₃ → Wrote d 0 (refusedLine number position) p d₃
+    refused-plain h u = subst (λ (t : Bool). Wrote d 0 (refused ++ (decimal number ++ (cond t (at ++ decimal position) [] ++ newline))) p d₃) (sym h) (wrote-then w (wrote-then v u))
 
     module _ (x : Wrote d₂ q at p d₃) (o : ℕ) (d₄ : List ℕ) where
       pub at-room : p + 5 ≤ length d₃
@@ -41,8 +41,8 @@ module _ (d : List ℕ) (r : ℕ) (d₁ : List ℕ) (number q : ℕ) (d₂ : Lis
         pub position-room : o + 1 ≤ length d₄
         position-room = omega (arith, at-room, y .next, wrote-length y, decimal-short position few)
 
-        pub refused-at : 5 ≤ number → (m : ℕ) (d₅ : List ℕ) → Wrote d₄ o newline m d₅ → Wrote d 0 (refusedLine number position) m d₅
-        refused-at h m d₅ u = subst (λ (t : Bool). Wrote d 0 (refused ++ (decimal number ++ (cond t [] (at ++ decimal position) ++ newline))) m d₅) (sym (le-ltb number 5 h)) (wrote-then w (wrote-then v (wrote-then x (wrote-then y u))))
+        pub refused-at : namesPosition number ≡ true → (m : ℕ) (d₅ : List ℕ) → Wrote d₄ o newline m d₅ → Wrote d 0 (refusedLine number position) m d₅
+        refused-at h m d₅ u = subst (λ (t : Bool). Wrote d 0 (refused ++ (decimal number ++ (cond t (at ++ decimal position) [] ++ newline))) m d₅) (sym h) (wrote-then w (wrote-then v (wrote-then x (wrote-then y u))))
 
 -- ---- elements
 pub length-line : (w v : ℕ) → length (line w v) ≡ 2 * w + 1

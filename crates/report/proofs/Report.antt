@@ -5,12 +5,12 @@ use mathlib.Core.List.{List, [], _++_}
 use Prim.Native.Nat.{ℕ, _+_, _*_, _≤_, _<_}
 use native.Mathlib.Nat.{le-refl, le-trans, mul-le-mul-right}
 use native.Mathlib.Omega.{arith}
-use lib.Dec.{eqb, ltb}
+use lib.Dec.{eqb}
 use lib.ListN.{length, length-append}
 use borrow.Author.Tests.{eq-eqb, ne-eqb}
-use Rattle.kinds.specs.Answer.{numberOf, positionOf}
+use Rattle.kinds.specs.Answer.{numberOf, namesPosition, positionOf}
 use Rattle.kinds.specs.declared.Answer.{Answer}
-use Rattle.kinds.specs.declared.Answer.the-variants.{Converted, UnknownCode, BrokenMap, BrokenElement, LengthMismatch, NanOrInf, OutOfRange, FloatOutOfRange}
+use Rattle.kinds.specs.declared.Answer.the-variants.{Converted, UnknownCode, BrokenMap, BrokenElement, LengthMismatch, NanOrInf, OutOfRange, FloatOutOfRange, BarredWrap}
 use Rattle.text.specs.Text.{decimal}
 use Rattle.text.specs.Wrote.{Wrote}
 use Rattle.report.specs.Report.{refused, at, newline, okLine, refusedLine, lines, report}
@@ -23,11 +23,11 @@ ok-short : (n : ℕ) → n < 10000 → length (okLine n) ≤ 8
 ok-short n h = omega (arith, length-append (decimal n) newline, decimal-short n h)
 
 refused-short : (number position : ℕ) → number < 10 → position < 10000 → length (refusedLine number position) ≤ 18
-refused-short number position h l = go (ltb number 5)
+refused-short number position h l = go (namesPosition number)
   where
-    go : (t : Bool) → length (refused ++ (decimal number ++ (cond t [] (at ++ decimal position) ++ newline))) ≤ 18
-    go true = omega (arith, length-append (decimal number) newline, decimal-one number h)
-    go false = omega (arith, length-append (decimal number) ((at ++ decimal position) ++ newline), decimal-one number h, length-append (decimal position) newline, decimal-short position l)
+    go : (t : Bool) → length (refused ++ (decimal number ++ (cond t (at ++ decimal position) [] ++ newline))) ≤ 18
+    go true = omega (arith, length-append (decimal number) ((at ++ decimal position) ++ newline), decimal-one number h, length-append (decimal position) newline, decimal-short position l)
+    go false = omega (arith, length-append (decimal number) newline, decimal-one number h)
 
 pub number-small : (r : Answer) → numberOf r < 10
 number-small Converted = omega arith
@@ -38,6 +38,7 @@ number-small (LengthMismatch s d) = omega arith
 number-small (NanOrInf i v) = omega arith
 number-small (OutOfRange i v lo hi) = omega arith
 number-small (FloatOutOfRange i v lo hi) = omega arith
+number-small BarredWrap = omega arith
 
 module _ (d bytes : List ℕ) (answer : Answer) (n w : ℕ) (ask : ReportFits d bytes answer n w) where
   -- k lines after a first line x

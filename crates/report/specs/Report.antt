@@ -2,9 +2,9 @@
 use mathlib.Core.Bool.{cond}
 use mathlib.Core.List.{List, [], _∷_, _++_}
 use Prim.Native.Nat.{ℕ, zero, suc, _*_}
-use lib.Dec.{eqb, ltb}
+use lib.Dec.{eqb}
 use Rattle.bytes_le.specs.Bytes.{patternAt}
-use Rattle.kinds.specs.Answer.{numberOf, positionOf}
+use Rattle.kinds.specs.Answer.{numberOf, namesPosition, positionOf}
 use Rattle.kinds.specs.declared.Answer.{Answer}
 use Rattle.text.specs.Text.{digits, decimal}
 
@@ -33,13 +33,13 @@ okLine n = ok ++ (decimal n ++ newline)
 
 -- "`refused`, the number and, for 5 to 7, `at` and the position"
 abbrev pub refusedLine : ℕ → ℕ → List ℕ
-refusedLine number position = refused ++ (decimal number ++ (cond (ltb number 5) [] (at ++ decimal position) ++ newline))
+refusedLine number position = refused ++ (decimal number ++ (cond (namesPosition number) (at ++ decimal position) [] ++ newline))
 
 -- "First line", of an answer to a call of n elements
 abbrev pub firstLine : ℕ → ℕ → ℕ → List ℕ
 firstLine number position n = cond (eqb number 0) (okLine n) (refusedLine number position)
 
--- how many elements are converted: all, or those before the position; the refusals 1 to 4 convert none, and their position is 0
+-- how many elements are converted: all, or those before the position; a refusal that names none converts none, and its position is 0
 abbrev pub converted : ℕ → ℕ → ℕ → ℕ
 converted number position n = cond (eqb number 0) n position
 

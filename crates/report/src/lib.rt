@@ -17,14 +17,14 @@ fn put_ok(out: &mut [u8], n: usize) -> usize
     text::put_byte(out, end, b'\n')
 }
 
-// Puts the first line of a refusal, with the position of those from 5 on, and returns the place after it.
+// Puts the first line of a refusal, with the position of those that name one, and returns the place after it.
 pub fn put_refused(out: &mut [u8], number: usize, position: usize) -> usize
     requires { ⌜ (number < 10) × (position < 10000) × (18 ≤ length (now out)) ⌝ }
     ensures { λ r. ⌜ Wrote (now (out .entry)) 0 (refusedLine number position) r (now (out .exit)) ⌝ }
 {
     let told = text::put_text(out, 0, b"refused ");
     let end = text::put_decimal(out, told, number);
-    if number < 5 {
+    if !kinds::names_position(number) {
         return text::put_byte(out, end, b'\n');
     }
     let there = text::put_text(out, end, b" at ");

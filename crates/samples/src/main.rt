@@ -1,4 +1,4 @@
-// The fourteen samples, a chunk of two elements and one of four under clamp and wrap, as bytes through the chunk call: each line is the answer's number,
+// The fourteen samples, wrap with a float target, a chunk of two elements and one of four under clamp and wrap, as bytes through the chunk call: each line is the answer's number,
 // the position of a refusal, the destination's bytes, which began as aa, and the counts mapped, exact, rounded, clamped and wrapped.
 ghost use mathlib.Core.Path.{_≡_};
 ghost use Prim.Native.Nat.{_≤_, _+_};
@@ -37,7 +37,7 @@ fn print_reply(r: Reply, d: &[u8]) {
     let c = r.counts;
     let number = kinds::number(a);
     io::print_decimal(STDOUT_FILENO, wide(number));
-    if 5 <= number {
+    if kinds::names_position(number as usize) {
         io::write_all(STDOUT_FILENO, b" at ");
         io::print_decimal(STDOUT_FILENO, kinds::position(a) as u64);
     }
@@ -117,6 +117,10 @@ fn to_floats() {
     sample(0x3690000000000000, 8, 4, 9, 8, 4, 0);
     // 13. -2^-200 to f32, towards-positive: -0
     sample(0xb370000000000000, 8, 4, 9, 8, 2, 0);
+    // wrap with a float target: 8, for 1 as well, and before a broken destination is looked at
+    sample(0x3ff0000000000000, 8, 4, 9, 8, 0, 2);
+    sample(0x3ff0000000000000, 8, 1, 9, 8, 0, 2);
+    sample(0x00000000000000ff, 1, 8, 4, 9, 0, 2);
 }
 
 // The eight bytes of x, at a place of d.

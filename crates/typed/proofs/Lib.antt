@@ -7,4 +7,4 @@ pub mod Steps
 pub mod Stored
 pub mod Threes
 pub mod Turns
-pub mod WholeElements
+pub mod Unmet

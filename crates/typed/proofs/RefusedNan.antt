@@ -89,8 +89,8 @@ of-number-5 i v (FloatOutOfRange u lo hi) n e = absurd (omega arith)
 told : (I : Inputs) (r : Reply) (d : List ℕ) (i v : ℕ) → Contract I r d → r .answer ≡ A.NanOrInf i v → (i < callOf I .count) × (outcomeAt (callOf I) i ≡ NanOrInf v)
 told I r d i v c e =
     let D = subst (λ (a : Answer). Demand1 I a d) e (c .demand1) in
-    let f = D .first-bad 5 i (lit≤ tt) .0 (refl, refl) in
-    (f .0 .within, of-number-5 i v (outcomeAt (callOf I) i) (f .1) (D .of-element (lit≤ tt)))
+    let f = D .first-bad 5 i tt .0 (refl, refl) in
+    (f .0 .within, of-number-5 i v (outcomeAt (callOf I) i) (f .1) (D .of-element tt))
 
 -- ---- the quiet NaN of either format, as f64
 quiet-value : (f : Format) → nanPattern (kindFor f) 53 11 (toBits f F.nan) ≡ refusedNan

@@ -1,6 +1,6 @@
 -- The loop of a typed call keeps the definitions' account of the rest, and ends with the chunk call's contract. For any two kinds, any entries and any type of the destination's elements.
 use mathlib.Core.List.{List, _++_, map}
-use mathlib.Core.Bool.{Bool, true, false, cond, _&&_, true≢false}
+use mathlib.Core.Bool.{Bool, true, false, cond, _&&_, not, true≢false}
 use mathlib.Core.Path.{_≡_, refl, sym, ap, ap₂, subst, _∙_}
 use Prim.Native.Nat.{ℕ, suc, _+_, _-_, _*_, _/_, _%_, _^_, _≤_, _<_}
 use native.Mathlib.Omega.{arith}
@@ -23,14 +23,14 @@ use Rattle.kinds.specs.declared.OutOfRangeMode.{OutOfRangeMode}
 use Rattle.kinds.specs.declared.Lookup.{Lookup}
 use Rattle.kinds.specs.declared.Outcome.{Outcome}
 use Rattle.kinds.specs.declared.Outcome.the-variants.{Stored, NanOrInf, OutOfRange, FloatOutOfRange}
-use Rattle.kinds.specs.Codes.{kindOf, roundingOf, rangeOf}
+use Rattle.kinds.specs.Codes.{kindOf, roundingOf, rangeOf, wrapBarred}
 use Rattle.kinds.specs.declared.Answer.the-variants as A
 use Rattle.cast_spec.specs.Contract.{Contract}
 use Rattle.cast_spec.proofs.Steps.{no-map}
 use Rattle.cast_spec.proofs.Contract.{contract}
 use Rattle.cast_spec.proofs.Checks.{answer-is, destination-is}
 use Rattle.cast_spec.proofs.Widths.{kind-fits, width-pos}
-use Rattle.cast_spec.proofs.Refusals.{unknown, mismatch}
+use Rattle.cast_spec.proofs.Refusals.{unknown, barred-wrap, mismatch}
 use Rattle.cast_spec.proofs.Runs.{Run, done, refused, kept, one-more, count-le, refused-converted}
 use Rattle.cast_spec.specs.Element.{Entry, Settings, lookupOf, foundOr, outcomeOf}
 use Rattle.cast_spec.specs.Fit.{unmapped}
@@ -150,10 +150,10 @@ module _ {X Y Z : Type 0} (P : Elements X Y Z) (xs : List X) (ys : List Z) (roun
     unfolding callOf
     count-is = source-whole .0
 
-    module _ (codes : ltb rounding 5 && ltb range 3 ≡ true) (meet : length ps ≡ length qs) where
+    module _ (codes : ltb rounding 5 && ltb range 3 ≡ true) (permitted : not (wrapBarred to range) ≡ true) (meet : length ps ≡ length qs) where
       passes : T (callOf I .passed)
       unfolding callOf
-      passes = let e : callOf I .passed ≡ true = simp (codes-are ∙ codes, map-is-whole, bytes-are-whole, eq-eqb _ _ (source-whole .0 ∙ meet ∙ sym (target-whole .0))) in subst T (sym e) tt
+      passes = let e : callOf I .passed ≡ true = simp (codes-are ∙ codes, permitted, map-is-whole, bytes-are-whole, eq-eqb _ _ (source-whole .0 ∙ meet ∙ sym (target-whole .0))) in subst T (sym e) tt
 
       first : Run (outcomeAt (callOf I)) w (length ps) (answerOf I) (destinationOf I) 0 (I .destination)
       first =
@@ -233,8 +233,8 @@ module _ {X Y Z : Type 0} (P : Elements X Y Z) (xs : List X) (ys : List Z) (roun
             let d = done o w (length ps) R W i (bytes zs) run l in
             over s i A.Converted zs ts long six (contract In (reply A.Converted ts) (bytes zs) (d .0) (counts ∙ counts-are i A.Converted (d .0) (count-is (map of ds) ∙ sym l)) (d .1))
 
-    pub starts : (ts : List ℕ) → ts ≡ noTally → Inv (startOf ps (length ds) rounding range) ds ts
-    starts ts none = by-tests (ltb rounding 5 && ltb range 3) refl (eqb (length ps) (length ds)) refl
+    pub starts : (ts : List ℕ) → ts ≡ noTally → Inv (startOf ps (length ds) to rounding range) ds ts
+    starts ts none = by-tests (ltb rounding 5 && ltb range 3) refl (wrapBarred to range) refl (eqb (length ps) (length ds)) refl
       where
         six : length ts ≡ 6
         six = ap length none
@@ -248,16 +248,17 @@ module _ {X Y Z : Type 0} (P : Elements X Y Z) (xs : List X) (ys : List Z) (roun
         uncounted : (a : Answer) → Contract In (record { answer = a; counts = noCounts }) (bytes ds) → Contract In (reply a ts) (bytes ds)
         uncounted a = subst (λ (c : Counts). Contract In (record { answer = a; counts = c }) (bytes ds)) (sym none-yet)
 
-        by-tests : (t : Bool) → ltb rounding 5 && ltb range 3 ≡ t → (u : Bool) → eqb (length ps) (length ds) ≡ u
-            → Inv (let s = cond t (cond u (going rule choice 0 0) (stopped rule choice 0 (A.LengthMismatch (length ps) (length ds)))) (stopped rule choice 0 A.UnknownCode) in cond (s .more) (stateAt (s .rounding) (s .range) ps 0) s) ds ts
-        by-tests false e u f = over (going rule choice 0 0) 0 A.UnknownCode ds ts refl six (uncounted A.UnknownCode (unknown In (codes-are (map of ds) ∙ e)))
-        by-tests true e false f =
+        by-tests : (t : Bool) → ltb rounding 5 && ltb range 3 ≡ t → (b : Bool) → wrapBarred to range ≡ b → (u : Bool) → eqb (length ps) (length ds) ≡ u
+            → Inv (let s = cond t (cond b (stopped rule choice 0 A.BarredWrap) (cond u (going rule choice 0 0) (stopped rule choice 0 (A.LengthMismatch (length ps) (length ds))))) (stopped rule choice 0 A.UnknownCode) in cond (s .more) (stateAt (s .rounding) (s .range) ps 0) s) ds ts
+        by-tests false e b g u f = over (going rule choice 0 0) 0 A.UnknownCode ds ts refl six (uncounted A.UnknownCode (unknown In (codes-are (map of ds) ∙ e)))
+        by-tests true e true g u f = over (going rule choice 0 0) 0 A.BarredWrap ds ts refl six (uncounted A.BarredWrap (barred-wrap In (codes-are (map of ds) ∙ e) (ap not g)))
+        by-tests true e false g false f =
             let n : length ps ≡ length ds → ⊥ = eqb-false (length ps) (length ds) f in
             over (going rule choice 0 0) 0 (A.LengthMismatch (length ps) (length ds)) ds ts refl six
             (uncounted (A.LengthMismatch (length ps) (length ds))
             (subst (λ (a : Answer). Contract In (record { answer = a; counts = noCounts }) (bytes ds)) (ap₂ A.LengthMismatch (source-whole (map of ds) .0) (target-whole (map of ds) .0 ∙ long))
-            (mismatch In (codes-are (map of ds) ∙ e) (map-is-whole (map of ds)) (bytes-are-whole (map of ds)) (λ h. n (sym (source-whole (map of ds) .0) ∙ h ∙ target-whole (map of ds) .0 ∙ long)))))
-        by-tests true e true f = let m = eqb-true (length ps) (length ds) f in at-position (going rule choice 0 0) (record { rule-is = refl; choice-is = refl }) 0 ds ts (omega arith) m refl six (first (map of ds) e (m ∙ sym long)) none-yet
+            (mismatch In (codes-are (map of ds) ∙ e) (ap not g) (map-is-whole (map of ds)) (bytes-are-whole (map of ds)) (λ h. n (sym (source-whole (map of ds) .0) ∙ h ∙ target-whole (map of ds) .0 ∙ long)))))
+        by-tests true e false g true f = let m = eqb-true (length ps) (length ds) f in at-position (going rule choice 0 0) (record { rule-is = refl; choice-is = refl }) 0 ds ts (omega arith) m refl six (first (map of ds) e (ap not g) (m ∙ sym long)) none-yet
 
     -- ---- one turn
     keeps : (i b : ℕ) (f : Fared) → i < length ps → outcomeOf S (getD ps i 0) ≡ Stored b f → toLe w (of (read b)) ≡ toLe w b

@@ -20,6 +20,13 @@ use typed_entries::EntryF64U8;
 use typed_entries::EntryI64F32;
 use typed_states::State;
 
+// The kind codes of the targets.
+const CODE_I32: u8 = 2;
+
+const CODE_U8: u8 = 4;
+
+const CODE_F32: u8 = 8;
+
 // Three map entries by value.
 pub type ThreeEntryF64U8 = [EntryF64U8; 3];
 
@@ -67,7 +74,7 @@ pub fn convert_f64_to_u8(
 ) -> Reply
     ensures { λ r. ⌜ TypedContract 9 4 (map f64Bits (now (src .entry))) (map u8Bits (now (dst .entry))) (map f64U8 (now (entries .entry))) rounding range r (map u8Bits (now (dst .exit))) ⌝ }
 {
-    let mut s = typed_states::start_f64(src, dst.len(), rounding, range);
+    let mut s = typed_states::start_f64(src, dst.len(), CODE_U8, rounding, range);
     let mut tally = counts::no_tally();
     while s.more {
         let f = typed_entries::lookup_f64_u8(entries, s.x);
@@ -125,7 +132,7 @@ pub fn convert_f64_to_i32(
 ) -> Reply
     ensures { λ r. ⌜ TypedContract 9 2 (map f64Bits (now (src .entry))) (map i32Bits (now (dst .entry))) (map f64I32 (now (entries .entry))) rounding range r (map i32Bits (now (dst .exit))) ⌝ }
 {
-    let mut s = typed_states::start_f64(src, dst.len(), rounding, range);
+    let mut s = typed_states::start_f64(src, dst.len(), CODE_I32, rounding, range);
     let mut tally = counts::no_tally();
     while s.more {
         let f = typed_entries::lookup_f64_i32(entries, s.x);
@@ -183,7 +190,7 @@ pub fn convert_f32_to_u8(
 ) -> Reply
     ensures { λ r. ⌜ TypedContract 8 4 (map f32Bits (now (src .entry))) (map u8Bits (now (dst .entry))) (map f32U8 (now (entries .entry))) rounding range r (map u8Bits (now (dst .exit))) ⌝ }
 {
-    let mut s = typed_states::start_f32(src, dst.len(), rounding, range);
+    let mut s = typed_states::start_f32(src, dst.len(), CODE_U8, rounding, range);
     let mut tally = counts::no_tally();
     while s.more {
         let f = typed_entries::lookup_f32_u8(entries, s.x);
@@ -231,7 +238,7 @@ fn step_f64_f32(src: &[f64], dst: &mut [f32], s: State, f: Lookup, tally: &mut T
     typed_states::refuse(s, o)
 }
 
-// Converts f64 elements to f32. A refusal 1 or 4 leaves the destination as it was; 7 leaves it so from the refused element on.
+// Converts f64 elements to f32. A refusal 1, 8 or 4 leaves the destination as it was; 7 leaves it so from the refused element on.
 pub fn convert_f64_to_f32(
     src: &[f64],
     dst: &mut [f32],
@@ -241,7 +248,7 @@ pub fn convert_f64_to_f32(
 ) -> Reply
     ensures { λ r. ⌜ TypedContract 9 8 (map f64Bits (now (src .entry))) (map f32Bits (now (dst .entry))) (map f64F32 (now (entries .entry))) rounding range r (map f32Bits (now (dst .exit))) ⌝ }
 {
-    let mut s = typed_states::start_f64(src, dst.len(), rounding, range);
+    let mut s = typed_states::start_f64(src, dst.len(), CODE_F32, rounding, range);
     let mut tally = counts::no_tally();
     while s.more {
         let f = typed_entries::lookup_f64_f32(entries, s.x);
@@ -289,7 +296,7 @@ fn step_i64_f32(src: &[i64], dst: &mut [f32], s: State, f: Lookup, tally: &mut T
     typed_states::refuse(s, o)
 }
 
-// Converts i64 elements to f32. A refusal 1 or 4 leaves the destination as it was; no element is refused.
+// Converts i64 elements to f32. A refusal 1, 8 or 4 leaves the destination as it was; no element is refused.
 pub fn convert_i64_to_f32(
     src: &[i64],
     dst: &mut [f32],
@@ -299,7 +306,7 @@ pub fn convert_i64_to_f32(
 ) -> Reply
     ensures { λ r. ⌜ TypedContract 3 8 (map i64Bits (now (src .entry))) (map f32Bits (now (dst .entry))) (map i64F32 (now (entries .entry))) rounding range r (map f32Bits (now (dst .exit))) ⌝ }
 {
-    let mut s = typed_states::start_i64(src, dst.len(), rounding, range);
+    let mut s = typed_states::start_i64(src, dst.len(), CODE_F32, rounding, range);
     let mut tally = counts::no_tally();
     while s.more {
         let f = typed_entries::lookup_i64_f32(entries, s.x);

@@ -39,7 +39,7 @@ fn print_reply(rounding: u8, range: u8, r: Reply) {
     io::print_decimal(STDOUT_FILENO, wide(range));
     io::write_all(STDOUT_FILENO, b" ");
     io::print_decimal(STDOUT_FILENO, wide(kinds::number(a)));
-    if 5 <= kinds::number(a) {
+    if kinds::names_position(kinds::number(a) as usize) {
         io::write_all(STDOUT_FILENO, b" at ");
         io::print_decimal(STDOUT_FILENO, kinds::position(a) as u64);
     }
@@ -234,6 +234,7 @@ fn from_others() {
     f32_u8([1.0, 2.0, 3.0, -1.0 / 0.0], 0, 1);
     i64_f32([16777217, -16777217, 0, -7], 0, 0);
     i64_f32([16777217, -16777217, 9223372036854775807, 1], 4, 0);
+    i64_f32([16777217, -16777217, 9223372036854775807, 1], 2, 0);
     i64_f32([16777217, -16777217, 9223372036854775807, 1], 2, 2);
     i64_f32([-9223372036854775807, 33554435, -33554435, 8], 1, 1);
 }

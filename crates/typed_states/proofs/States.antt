@@ -8,7 +8,7 @@ use lib.Dec.{ltb}
 use lib.ListN.{length, getD, length-map}
 use borrow.Author.Tests.{lt-ltb, le-ltb, eq-eqb, ne-eqb}
 use Rattle.grid.specs.declared.RoundingMode.{RoundingMode}
-use Rattle.kinds.specs.Codes.{roundingOf, rangeOf}
+use Rattle.kinds.specs.Codes.{roundingOf, rangeOf, wrapBarred}
 use Rattle.kinds.specs.declared.OutOfRangeMode.{OutOfRangeMode}
 use Rattle.kinds.specs.declared.Answer.{Answer}
 use Rattle.kinds.specs.declared.Answer.the-variants as A
@@ -16,19 +16,23 @@ use Rattle.typed_states.specs.declared.State.{State}
 use Rattle.typed_states.specs.States.{going, stopped, stateAt, checkOf, startOf}
 
 -- ---- the checks of the codes `rounding` and `range`, which stand for rule and choice
-module _ (n m rounding range : ℕ) (rule : RoundingMode) (choice : OutOfRangeMode) (u : rule ≡ roundingOf rounding) (v : choice ≡ rangeOf range) where
+module _ (n m to rounding range : ℕ) (rule : RoundingMode) (choice : OutOfRangeMode) (u : rule ≡ roundingOf rounding) (v : choice ≡ rangeOf range) where
   stopped-by : (a : Answer) → stopped rule choice 0 a ≡ stopped (roundingOf rounding) (rangeOf range) 0 a
   stopped-by a = ap₂ (λ (x : RoundingMode) (y : OutOfRangeMode). stopped x y 0 a) u v
 
-  pub rules-unlisted : ltb rounding 5 && ltb range 3 ≡ false → stopped rule choice 0 A.UnknownCode ≡ checkOf n m rounding range
+  pub rules-unlisted : ltb rounding 5 && ltb range 3 ≡ false → stopped rule choice 0 A.UnknownCode ≡ checkOf n m to rounding range
   rules-unlisted h = stopped-by A.UnknownCode ∙ simp h
 
   module _ (listed : ltb rounding 5 && ltb range 3 ≡ true) where
-    pub counts-differ : (n ≡ m → ⊥) → stopped rule choice 0 (A.LengthMismatch n m) ≡ checkOf n m rounding range
-    counts-differ h = stopped-by (A.LengthMismatch n m) ∙ simp (listed, ne-eqb n m h)
+    pub wrap-barred : wrapBarred to range ≡ true → stopped rule choice 0 A.BarredWrap ≡ checkOf n m to rounding range
+    wrap-barred h = stopped-by A.BarredWrap ∙ simp (listed, h)
 
-    pub checks-pass : n ≡ m → going rule choice 0 0 ≡ checkOf n m rounding range
-    checks-pass h = ap₂ (λ (x : RoundingMode) (y : OutOfRangeMode). going x y 0 0) u v ∙ simp (listed, eq-eqb n m h)
+    module _ (permitted : wrapBarred to range ≡ false) where
+      pub counts-differ : (n ≡ m → ⊥) → stopped rule choice 0 (A.LengthMismatch n m) ≡ checkOf n m to rounding range
+      counts-differ h = stopped-by (A.LengthMismatch n m) ∙ simp (listed, permitted, ne-eqb n m h)
+
+      pub checks-pass : n ≡ m → going rule choice 0 0 ≡ checkOf n m to rounding range
+      checks-pass h = ap₂ (λ (x : RoundingMode) (y : OutOfRangeMode). going x y 0 0) u v ∙ simp (listed, permitted, eq-eqb n m h)
 
 -- ---- the state at a position of elements whose patterns `bits` gives
 pub mapped-at : {X : Type 0} (bits : X → ℕ) (xs : List X) (i : ℕ) (d : X) → i < length xs → bits (getD xs i d) ≡ getD (map bits xs) i 0
@@ -48,18 +52,18 @@ module _ {X : Type 0} (bits : X → ℕ) (xs : List X) where
     past h = at-test (sym (le-ltb i (length (map bits xs)) (subst (λ (n : ℕ). n ≤ i) (sym (length-map xs bits)) h)))
 
   -- ---- the start, after the checks have left the state s
-  module _ (m rounding range : ℕ) (s : State) (e : s ≡ checkOf (length xs) m rounding range) where
-    checked : s ≡ checkOf (length (map bits xs)) m rounding range
-    checked = e ∙ ap (λ (n : ℕ). checkOf n m rounding range) (sym (length-map xs bits))
+  module _ (m to rounding range : ℕ) (s : State) (e : s ≡ checkOf (length xs) m to rounding range) where
+    checked : s ≡ checkOf (length (map bits xs)) m to rounding range
+    checked = e ∙ ap (λ (n : ℕ). checkOf n m to rounding range) (sym (length-map xs bits))
 
-    started : startOf (map bits xs) m rounding range ≡ cond (s .more) (stateAt (s .rounding) (s .range) (map bits xs) 0) s
+    started : startOf (map bits xs) m to rounding range ≡ cond (s .more) (stateAt (s .rounding) (s .range) (map bits xs) 0) s
     started = ap (λ (z : State). cond (z .more) (stateAt (z .rounding) (z .range) (map bits xs) 0) z) (sym checked)
 
-    by-test : {t : Bool} → s .more ≡ t → cond t (stateAt (s .rounding) (s .range) (map bits xs) 0) s ≡ startOf (map bits xs) m rounding range
+    by-test : {t : Bool} → s .more ≡ t → cond t (stateAt (s .rounding) (s .range) (map bits xs) 0) s ≡ startOf (map bits xs) m to rounding range
     by-test h = sym (started ∙ ap (λ (b : Bool). cond b (stateAt (s .rounding) (s .range) (map bits xs) 0) s) h)
 
-    pub starts : s .more ≡ true → (r : State) → r ≡ stateAt (s .rounding) (s .range) (map bits xs) 0 → r ≡ startOf (map bits xs) m rounding range
+    pub starts : s .more ≡ true → (r : State) → r ≡ stateAt (s .rounding) (s .range) (map bits xs) 0 → r ≡ startOf (map bits xs) m to rounding range
     starts h r f = f ∙ by-test h
 
-    pub refuses-start : s .more ≡ false → s ≡ startOf (map bits xs) m rounding range
+    pub refuses-start : s .more ≡ false → s ≡ startOf (map bits xs) m to rounding range
     refuses-start h = by-test h

@@ -5,7 +5,7 @@ use Prim.Native.Nat.{ℕ}
 use lib.Dec.{ltb, eqb}
 use lib.ListN.{length, getD}
 use Rattle.grid.specs.declared.RoundingMode.{RoundingMode}
-use Rattle.kinds.specs.Codes.{roundingOf, rangeOf}
+use Rattle.kinds.specs.Codes.{roundingOf, rangeOf, wrapBarred}
 use Rattle.kinds.specs.declared.OutOfRangeMode.{OutOfRangeMode}
 use Rattle.kinds.specs.declared.Answer.{Answer}
 use Rattle.kinds.specs.declared.Answer.the-variants as A
@@ -22,11 +22,13 @@ module _ (rule : RoundingMode) (range : OutOfRangeMode) where
   abbrev pub stateAt : List ℕ → ℕ → State
   stateAt ps i = cond (ltb i (length ps)) (going i (getD ps i 0)) (stopped i A.Converted)
 
--- the checks of n source and m destination elements: 1, then 4
-abbrev pub checkOf : ℕ → ℕ → ℕ → ℕ → State
-checkOf n m rounding range = cond (ltb rounding 5 && ltb range 3)
-    (cond (eqb n m) (going (roundingOf rounding) (rangeOf range) 0 0) (stopped (roundingOf rounding) (rangeOf range) 0 (A.LengthMismatch n m)))
+-- the checks of n source elements and m destination elements of the kind `to`: 1, then 8, then 4
+abbrev pub checkOf : ℕ → ℕ → ℕ → ℕ → ℕ → State
+checkOf n m to rounding range = cond (ltb rounding 5 && ltb range 3)
+    (cond (wrapBarred to range)
+    (stopped (roundingOf rounding) (rangeOf range) 0 A.BarredWrap)
+    (cond (eqb n m) (going (roundingOf rounding) (rangeOf range) 0 0) (stopped (roundingOf rounding) (rangeOf range) 0 (A.LengthMismatch n m))))
     (stopped (roundingOf rounding) (rangeOf range) 0 A.UnknownCode)
 
-abbrev pub startOf : List ℕ → ℕ → ℕ → ℕ → State
-startOf ps m rounding range = let s = checkOf (length ps) m rounding range in cond (s .more) (stateAt (s .rounding) (s .range) ps 0) s
+abbrev pub startOf : List ℕ → ℕ → ℕ → ℕ → ℕ → State
+startOf ps m to rounding range = let s = checkOf (length ps) m to rounding range in cond (s .more) (stateAt (s .rounding) (s .range) ps 0) s

@@ -53,14 +53,17 @@ fn stop(at: usize, answer: Answer, rounding: RoundingMode, range: OutOfRangeMode
     }
 }
 
-// The checks before the elements: the codes, then the counts. `more` says that they pass.
-fn check(n: usize, m: usize, rounding: u8, range: u8) -> State
-    ensures { λ r. ⌜ r ≡ checkOf n m rounding range ⌝ }
+// The checks before the elements, of a target of the kind `to`: the codes, wrap with a float, then the counts. `more` says that they pass.
+fn check(n: usize, m: usize, to: u8, rounding: u8, range: u8) -> State
+    ensures { λ r. ⌜ r ≡ checkOf n m to rounding range ⌝ }
 {
     let rounding_mode = kinds::rounding_of(rounding);
     let range_mode = kinds::range_of(range);
     if !kinds::rules_listed(rounding, range) {
         return stop(0, Answer::UnknownCode, rounding_mode, range_mode);
+    }
+    if kinds::wrap_barred(to, range) {
+        return stop(0, Answer::BarredWrap, rounding_mode, range_mode);
     }
     if n != m {
         let answer = Answer::LengthMismatch {
@@ -104,11 +107,11 @@ pub fn state_f64(src: &[f64], at: usize, rounding: RoundingMode, range: OutOfRan
     stop(at, Answer::Converted, rounding, range)
 }
 
-// The checks, and the state at the first element.
-pub fn start_f64(src: &[f64], room: usize, rounding: u8, range: u8) -> State
-    ensures { λ r. ⌜ r ≡ startOf (map f64Bits (now (src .entry))) room rounding range ⌝ }
+// The checks of a target of the kind `to`, and the state at the first element.
+pub fn start_f64(src: &[f64], room: usize, to: u8, rounding: u8, range: u8) -> State
+    ensures { λ r. ⌜ r ≡ startOf (map f64Bits (now (src .entry))) room to rounding range ⌝ }
 {
-    let s = check(src.len(), room, rounding, range);
+    let s = check(src.len(), room, to, rounding, range);
     if s.more {
         let rounding_mode = s.rounding;
         let range_mode = s.range;
@@ -127,11 +130,11 @@ pub fn state_f32(src: &[f32], at: usize, rounding: RoundingMode, range: OutOfRan
     stop(at, Answer::Converted, rounding, range)
 }
 
-// The checks, and the state at the first element.
-pub fn start_f32(src: &[f32], room: usize, rounding: u8, range: u8) -> State
-    ensures { λ r. ⌜ r ≡ startOf (map f32Bits (now (src .entry))) room rounding range ⌝ }
+// The checks of a target of the kind `to`, and the state at the first element.
+pub fn start_f32(src: &[f32], room: usize, to: u8, rounding: u8, range: u8) -> State
+    ensures { λ r. ⌜ r ≡ startOf (map f32Bits (now (src .entry))) room to rounding range ⌝ }
 {
-    let s = check(src.len(), room, rounding, range);
+    let s = check(src.len(), room, to, rounding, range);
     if s.more {
         let rounding_mode = s.rounding;
         let range_mode = s.range;
@@ -150,11 +153,11 @@ pub fn state_i64(src: &[i64], at: usize, rounding: RoundingMode, range: OutOfRan
     stop(at, Answer::Converted, rounding, range)
 }
 
-// The checks, and the state at the first element.
-pub fn start_i64(src: &[i64], room: usize, rounding: u8, range: u8) -> State
-    ensures { λ r. ⌜ r ≡ startOf (map i64Bits (now (src .entry))) room rounding range ⌝ }
+// The checks of a target of the kind `to`, and the state at the first element.
+pub fn start_i64(src: &[i64], room: usize, to: u8, rounding: u8, range: u8) -> State
+    ensures { λ r. ⌜ r ≡ startOf (map i64Bits (now (src .entry))) room to rounding range ⌝ }
 {
-    let s = check(src.len(), room, rounding, range);
+    let s = check(src.len(), room, to, rounding, range);
     if s.more {
         let rounding_mode = s.rounding;
         let range_mode = s.range;

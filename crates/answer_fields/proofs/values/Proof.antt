@@ -40,5 +40,8 @@ returns-7 c =
 returns-8 : tie.Need-returns-8
 returns-8 c = ap valueFields (sym (c .before .a4 .given .1))
 
+returns-9 : tie.Need-returns-9
+returns-9 c = ap valueFields (sym (c .enum-told5 .given .1))
+
 pub values-spec : {M : Type 1} → statement M
-values-spec = tie.close (tie.spec (λ c. search needs) (λ c. search needs) (λ c. search needs) (λ c. search needs) (λ c. search needs) (λ c. search needs) (λ c. search needs) (λ c κs. search needs) (λ c. search needs) returns returns-2 returns-3 returns-4 returns-5 returns-6 returns-7 returns-8)
+values-spec = tie.close (tie.spec (λ c. search needs) (λ c. search needs) (λ c. search needs) (λ c. search needs) (λ c. search needs) (λ c. search needs) (λ c. search needs) (λ c κs. search needs) (λ c. search needs) (λ c. search needs) returns returns-2 returns-3 returns-4 returns-5 returns-6 returns-7 returns-8 returns-9)

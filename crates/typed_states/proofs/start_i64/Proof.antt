@@ -10,10 +10,10 @@ returns : tie.Need-returns
 returns c =
     let k = c .before .before in
     let a = k .before .args in
-    starts i64Bits (now (a .src)) (a .room) (a .rounding) (a .range) (k .check .result) (k .check .ensures) (c .before .if1 .taken) (c .state-i64 .result) (c .state-i64 .ensures)
+    starts i64Bits (now (a .src)) (a .room) (a .to) (a .rounding) (a .range) (k .check .result) (k .check .ensures) (c .before .if1 .taken) (c .state-i64 .result) (c .state-i64 .ensures)
 
 returns-2 : tie.Need-returns-2
-returns-2 c = let k = c .before in let a = k .before .args in refuses-start i64Bits (now (a .src)) (a .room) (a .rounding) (a .range) (k .check .result) (k .check .ensures) (c .if1 .left)
+returns-2 c = let k = c .before in let a = k .before .args in refuses-start i64Bits (now (a .src)) (a .room) (a .to) (a .rounding) (a .range) (k .check .result) (k .check .ensures) (c .if1 .left)
 
 pub start-i64-spec : {M : Type 1} → statement M
 start-i64-spec = tie.close (tie.spec (λ c κs. search needs) (λ c κs. search needs) returns returns-2)
