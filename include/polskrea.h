@@ -5,7 +5,7 @@
  * no state, allocates nothing, and may be called from several threads at once).
  *
  * What is said below of the answer and of the destination is proved of the library's code, for every input that keeps the caller's side:
- * crates/polskrea/specs/Returned.antt states it. Nothing checks the caller's side.
+ * crates/answer_fields/specs/Returned.antt states it. Nothing checks the caller's side.
  */
 #ifndef POLSKREA_H
 #define POLSKREA_H
@@ -38,7 +38,7 @@ extern "C" {
 
 /* Range codes: what becomes of an element whose rounded value lies past the target's finite range.
  * NONE refuses it. CLAMP gives the nearer end of an integer kind, and the infinity of its sign in a float kind.
- * WRAP gives the number of an integer kind that is congruent to it modulo 2^bits; with a float target it refuses, as NONE does. */
+ * WRAP gives the number of an integer kind that is congruent to it modulo 2^bits; with a float target it is barred, whatever the elements. */
 #define POLSKREA_NONE 0
 #define POLSKREA_CLAMP 1
 #define POLSKREA_WRAP 2
@@ -51,7 +51,8 @@ extern "C" {
 #define POLSKREA_LENGTH_MISMATCH 4   /* the element counts of source and destination differ */
 #define POLSKREA_NAN_OR_INF 5        /* a NaN or an infinity that no map entry matches goes to an integer kind, whatever the range code */
 #define POLSKREA_OUT_OF_RANGE 6      /* the rounded value is outside an integer target, range code 0 */
-#define POLSKREA_FLOAT_OUT_OF_RANGE 7 /* the rounded value is past a float target's finite range, range code 0 or 2 */
+#define POLSKREA_FLOAT_OUT_OF_RANGE 7 /* the rounded value is past a float target's finite range, range code 0 */
+#define POLSKREA_BARRED_WRAP 8       /* range code 2 with a float target, whatever the lengths, the map and the elements: an empty chunk too */
 
 /* What a call answers beside its number. Every call writes every field, 0 where the field does not apply. The first six go with the numbers that
  * stand beside them. The last five count the converted elements, each in one of them: with the numbers 0, 5, 6 and 7. */
@@ -81,14 +82,14 @@ typedef struct polskrea_answer {
  * `src`, `dst`, `keys` and `targets` each come with their length in BYTES. Keys are elements of the kind `from`, targets of the kind `to`;
  * entry i is key i and target i. With no map both lengths are 0.
  *
- * Returns 0 to 7. Numbers 1 to 4 are tested in that order, then the elements by position, and the first refusal ends the call.
+ * Returns 0 to 8. Tested in this order: 1, 8, 2, 3, 4, then the elements by position, and the first refusal ends the call.
  *   0          dst holds every converted element.
- *   1 to 4     dst is as it was.
+ *   1 to 4, 8  dst is as it was.
  *   5, 6, 7    the elements before the refused one are converted; dst is as it was from the refused one on.
  *
  * answer, every field always written; what a line does not name is 0:
  *   0          the counts
- *   1, 2, 3    nothing
+ *   1, 2, 3, 8 nothing
  *   4          src_len, dst_len
  *   5          position, value, the counts
  *   6, 7       position, value, lowest, highest, the counts
@@ -115,7 +116,8 @@ uint8_t polskrea_convert(const uint8_t *src, size_t src_len,
 
 /*
  * Typed calls: slices of numbers in place of bytes, and one slice of map entries. Same steps, same numbers, same fields as
- * polskrea_convert on the elements' bytes. Every length counts ELEMENTS. They cannot answer 2 or 3. They stand in libpolskrea_typed.a.
+ * polskrea_convert on the elements' bytes. Every length counts ELEMENTS. They cannot answer 2 or 3, and 8 only to f32. They stand in
+ * libpolskrea_typed.a.
  *
  * A NaN's own bits play no part: as the value of refusal 5 every NaN is 0x7ff8000000000000, and which NaN pattern a stored NaN has is free.
  * A place of `dst` that is left as it was is not written. Of a float that is a NaN the proof says only that it is still a NaN; that it keeps its

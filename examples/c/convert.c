@@ -20,7 +20,7 @@ static void show_refusal(uint8_t number, const polskrea_answer *a)
     if (number == POLSKREA_LENGTH_MISMATCH) {
         printf(", %" PRIu64 " elements into %" PRIu64, a->src_len, a->dst_len);
     }
-    if (number >= POLSKREA_NAN_OR_INF) {
+    if (number >= POLSKREA_NAN_OR_INF && number <= POLSKREA_FLOAT_OUT_OF_RANGE) {
         printf(" at %" PRIu64 ", value %g", a->position, as_double(a->value));
     }
     if (number == POLSKREA_OUT_OF_RANGE) {
@@ -76,7 +76,7 @@ static void by_bytes(void)
     show("one place", number, &answer, dst, 1);
 }
 
-/* Nothing to convert, where every pointer may be null but the answer's, and a number past f32. */
+/* Nothing to convert, where every pointer may be null but the answer's, a number past f32, and wrap, which a float target bars. */
 static void at_the_ends(void)
 {
     polskrea_answer answer;
@@ -90,6 +90,9 @@ static void at_the_ends(void)
     number = polskrea_convert((const uint8_t *)&large, sizeof large, single, sizeof single, NULL, 0, NULL, 0,
                               POLSKREA_F64, POLSKREA_F32, POLSKREA_NEAREST_EVEN, POLSKREA_NONE, &answer);
     show("1e300 to f32", number, &answer, single, sizeof single);
+
+    number = polskrea_convert(NULL, 0, NULL, 0, NULL, 0, NULL, 0, POLSKREA_F64, POLSKREA_F32, POLSKREA_NEAREST_EVEN, POLSKREA_WRAP, &answer);
+    show("empty, wrap to f32", number, &answer, NULL, 0);
 }
 
 /* The typed calls, with typed maps. */

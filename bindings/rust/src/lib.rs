@@ -35,8 +35,8 @@ macro_rules! typed {
         ///
         /// # Errors
         ///
-        /// The first refusal, 4 to 7, with the counts of the elements before it. Refusal 4 leaves `dst` as it was; 5 to 7 leave it so from the
-        /// refused element on.
+        /// The first refusal, 8 or 4 to 7, with the counts of the elements before it; 8 with an `f32` target only. Refusals 8 and 4 leave `dst` as it
+        /// was; 5 to 7 leave it so from the refused element on.
         pub fn $name(
             src: &[$source],
             dst: &mut [$target],
@@ -119,7 +119,7 @@ pub enum OutOfRangeMode {
     None = 0,
     /// The nearer end of an integer kind; the infinity of its sign in a float kind.
     Clamp = 1,
-    /// The congruent number of an integer kind; refused with a float target.
+    /// The congruent number of an integer kind. With a float target every call is refused, by [`CastError::BarredWrap`].
     Wrap = 2,
 }
 
@@ -143,7 +143,7 @@ pub struct Counts {
     pub rounded: u64,
     /// Unmatched: the rounded value is past that range, under [`OutOfRangeMode::Clamp`].
     pub clamped: u64,
-    /// Unmatched: the rounded value is past that range, under [`OutOfRangeMode::Wrap`] with an integer target.
+    /// Unmatched: the rounded value is past that range, under [`OutOfRangeMode::Wrap`].
     pub wrapped: u64,
 }
 
@@ -187,7 +187,7 @@ impl fmt::Display for Counts {
 pub struct Refused {
     /// Why.
     pub error: CastError,
-    /// Of the elements before the refused one. All are 0 for the refusals 1 to 4, which convert nothing.
+    /// Of the elements before the refused one. All are 0 for the refusals 1 to 4 and 8, which convert nothing.
     pub counts: Counts,
 }
 
@@ -251,7 +251,9 @@ pub enum CastError {
         /// The target's highest finite number.
         hi: f64,
     },
-    /// A number above 7, which a later library may answer: this wrapper does not know what was done.
+    /// 8: [`OutOfRangeMode::Wrap`] with a float target, whatever the lengths, the map and the elements; tested directly after 1.
+    BarredWrap,
+    /// A number above 8, which a later library may answer: this wrapper does not know what was done.
     UnknownNumber(u8),
 }
 
@@ -266,6 +268,7 @@ impl CastError {
             CastError::NanOrInf { .. } => 5,
             CastError::OutOfRange { .. } => 6,
             CastError::FloatOutOfRange { .. } => 7,
+            CastError::BarredWrap => 8,
             CastError::UnknownNumber(number) => number,
         }
     }
@@ -281,6 +284,7 @@ impl fmt::Display for CastError {
             CastError::NanOrInf { position, value } => write!(f, "element {position}: {value} has no integer"),
             CastError::OutOfRange { position, value, lo, hi } => write!(f, "element {position}: {value} is outside {lo} to {hi}"),
             CastError::FloatOutOfRange { position, value, lo, hi } => write!(f, "element {position}: {value} is outside {lo} to {hi}"),
+            CastError::BarredWrap => write!(f, "wrap needs an integer target"),
             CastError::UnknownNumber(number) => write!(f, "the library answered {number}, which this wrapper does not know"),
         }
     }
@@ -292,8 +296,8 @@ impl core::error::Error for CastError {}
 ///
 /// # Errors
 ///
-/// The first refusal, 2 to 7, with the counts of the elements before it. Refusals 2 to 4 leave `dst` as it was; 5 to 7 leave it so from the
-/// refused element on.
+/// The first refusal, 8 or 2 to 7, with the counts of the elements before it. Refusals 8 and 2 to 4 leave `dst` as it was; 5 to 7 leave it so
+/// from the refused element on.
 pub fn convert(
     src: &[u8],
     dst: &mut [u8],
@@ -363,6 +367,7 @@ fn answered(number: u8, answer: &sys::Answer) -> Result<Counts, Refused> {
             lo: f64::from_bits(lowest),
             hi: f64::from_bits(highest),
         },
+        8 => CastError::BarredWrap,
         _ => CastError::UnknownNumber(number),
     };
     Err(Refused { error, counts })
@@ -401,8 +406,8 @@ mod tests {
     };
 
     #[test]
-    fn a_number_above_7_is_unknown() {
-        for number in 8..=255 {
+    fn a_number_above_8_is_unknown() {
+        for number in 9..=255 {
             let error = CastError::UnknownNumber(number);
             assert_eq!(answered(number, &ANSWER), Err(Refused { error, counts: COUNTS }));
             assert_eq!(error.number(), number);
@@ -430,6 +435,7 @@ mod tests {
                 lo,
                 hi,
             },
+            CastError::BarredWrap,
         ];
         assert_eq!(answered(0, &ANSWER), Ok(COUNTS));
         for (number, error) in (1..).zip(refusals) {

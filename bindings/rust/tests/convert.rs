@@ -179,6 +179,41 @@ fn refusals_1_to_4_in_their_order_with_no_counts() {
     assert_eq!(dst, [0xee; 3]);
 }
 
+/// Wrap with a float target: after 1, before 2, 3 and 4, for the empty chunk as well, and only there.
+#[test]
+fn barred_wrap() {
+    let mut dst = [0xee; 3];
+    let none = Map::default();
+    let broken = Map {
+        keys: &[0; 8],
+        targets: &[],
+    };
+    for to in [Kind::F32, Kind::F64] {
+        let mut number = |len, map, rounding, range| {
+            let refused = convert_codes(&[0; 16][..len], &mut dst, map, 9, to as u8, rounding, range).unwrap_err();
+            assert_eq!(refused.counts, Counts::default());
+            refused.error.number()
+        };
+        assert_eq!(number(9, broken, 5, 2), 1);
+        for len in [0, 8, 9, 16] {
+            assert_eq!(number(len, none, 0, 2), 8);
+            assert_eq!(number(len, broken, 0, 2), 8);
+        }
+        assert_eq!(number(8, broken, 0, 1), 2);
+        assert_eq!(number(8, none, 0, 0), 3);
+        assert_eq!(
+            cast(&[], Kind::F64, to, NearestEven, Wrap),
+            Err(CastError::BarredWrap),
+            "an empty chunk to {to:?}"
+        );
+        assert_eq!(cast(&[], Kind::F64, to, NearestEven, Clamp), Ok(vec![]));
+    }
+    assert_eq!(dst, [0xee; 3]);
+    for to in [Kind::I8, Kind::U64] {
+        assert_eq!(cast(&[], Kind::F32, to, NearestEven, Wrap), Ok(vec![]));
+    }
+}
+
 #[test]
 fn two_empty_chunks() {
     assert_eq!(

@@ -9,6 +9,8 @@ use RoundingMode::{NearestAway, NearestEven, TowardsNegative, TowardsPositive, T
 
 const ROUNDINGS: [RoundingMode; 5] = [NearestEven, TowardsZero, TowardsPositive, TowardsNegative, NearestAway];
 const RANGES: [OutOfRangeMode; 3] = [Refuse, Clamp, Wrap];
+/// Those that a float target may have.
+const TO_FLOAT: [OutOfRangeMode; 2] = [Refuse, Clamp];
 
 /// In the order of the fields.
 fn counts([mapped, exact, rounded, clamped, wrapped]: [u64; 5]) -> Counts {
@@ -70,13 +72,15 @@ fn exact_where_the_number_is_the_same() {
     for (rounding, range) in ROUNDINGS.iter().flat_map(|o| RANGES.map(|r| (*o, r))) {
         let whole = bytes!([0.0f64, -0.0, 1.0, 255.0]);
         assert_eq!(cast(&whole, Kind::F64, Kind::U8, rounding, range), Ok(counts([0, 4, 0, 0, 0])));
+        let integers = bytes!([0i16, 127, -128]);
+        assert_eq!(cast(&integers, Kind::I16, Kind::I8, rounding, range), Ok(counts([0, 3, 0, 0, 0])));
+    }
+    for (rounding, range) in ROUNDINGS.iter().flat_map(|o| TO_FLOAT.map(|r| (*o, r))) {
         let special = bytes!([f64::NAN, f64::INFINITY, -f64::INFINITY, -0.0, 0.5, f64::from(f32::MAX)]);
         assert_eq!(cast(&special, Kind::F64, Kind::F32, rounding, range), Ok(counts([0, 6, 0, 0, 0])));
         assert_eq!(cast(&special, Kind::F64, Kind::F64, rounding, range), Ok(counts([0, 6, 0, 0, 0])));
         let widened = bytes!([f32::NAN, f32::MAX, f32::from_bits(1), 0.1]);
         assert_eq!(cast(&widened, Kind::F32, Kind::F64, rounding, range), Ok(counts([0, 4, 0, 0, 0])));
-        let integers = bytes!([0i16, 127, -128]);
-        assert_eq!(cast(&integers, Kind::I16, Kind::I8, rounding, range), Ok(counts([0, 3, 0, 0, 0])));
         let long = bytes!([1i64 << 24, -(1 << 62), (1 << 24) - 1]);
         assert_eq!(cast(&long, Kind::I64, Kind::F32, rounding, range), Ok(counts([0, 3, 0, 0, 0])));
     }
@@ -84,16 +88,17 @@ fn exact_where_the_number_is_the_same() {
 
 #[test]
 fn rounded_where_it_is_another() {
-    for (rounding, range) in [TowardsZero, TowardsPositive, NearestEven, NearestAway]
-        .iter()
-        .flat_map(|o| RANGES.map(|r| (*o, r)))
-    {
+    for rounding in [TowardsZero, TowardsPositive, NearestEven, NearestAway] {
         let parts = bytes!([-0.3f64, 2.5, 254.25, 1.0]);
-        assert_eq!(cast(&parts, Kind::F64, Kind::U8, rounding, range), Ok(counts([0, 1, 3, 0, 0])));
+        for range in RANGES {
+            assert_eq!(cast(&parts, Kind::F64, Kind::U8, rounding, range), Ok(counts([0, 1, 3, 0, 0])));
+        }
         let fine = bytes!([0.1f64, -(2f64.powi(-200)), 1.0]);
-        assert_eq!(cast(&fine, Kind::F64, Kind::F32, rounding, range), Ok(counts([0, 1, 2, 0, 0])));
         let long = bytes!([16_777_217i64, -16_777_217, i64::MAX, 0]);
-        assert_eq!(cast(&long, Kind::I64, Kind::F32, rounding, range), Ok(counts([0, 1, 3, 0, 0])));
+        for range in TO_FLOAT {
+            assert_eq!(cast(&fine, Kind::F64, Kind::F32, rounding, range), Ok(counts([0, 1, 2, 0, 0])));
+            assert_eq!(cast(&long, Kind::I64, Kind::F32, rounding, range), Ok(counts([0, 1, 3, 0, 0])));
+        }
     }
 }
 
@@ -131,24 +136,25 @@ fn a_refusal_counts_what_stands_before_it() {
     }
 }
 
-/// A typed call on four elements, of which the map has the first, clamped and wrapped.
+/// A typed call on four elements, of which the map has the first, under each of these range choices.
 macro_rules! fared {
-    ($call:ident, $src:expr, $target:expr) => {{
+    ($call:ident, $src:expr, $target:expr, $ranges:expr) => {{
         let (src, target) = ($src, $target);
         let entries = [Entry { key: src[0], target }];
-        [Clamp, Wrap].map(|range| $call(&src, &mut [target; 4], &entries, NearestEven, range))
+        $ranges.map(|range| $call(&src, &mut [target; 4], &entries, NearestEven, range))
     }};
 }
 
 #[test]
 fn typed_calls_count_alike() {
     let past = [Ok(counts([1, 1, 1, 1, 0])), Ok(counts([1, 1, 1, 0, 1]))];
-    assert_eq!(fared!(convert_f64_to_u8, [9.0, 1.0, 1.5, 300.0], 1), past);
-    assert_eq!(fared!(convert_f64_to_i32, [9.0, 1.0, 1.5, 3e9], 1), past);
-    assert_eq!(fared!(convert_f32_to_u8, [9.0, 1.0, 1.5, 300.0], 1), past);
+    assert_eq!(fared!(convert_f64_to_u8, [9.0, 1.0, 1.5, 300.0], 1, [Clamp, Wrap]), past);
+    assert_eq!(fared!(convert_f64_to_i32, [9.0, 1.0, 1.5, 3e9], 1, [Clamp, Wrap]), past);
+    assert_eq!(fared!(convert_f32_to_u8, [9.0, 1.0, 1.5, 300.0], 1, [Clamp, Wrap]), past);
     let within = [Ok(counts([1, 2, 1, 0, 0])); 2];
-    assert_eq!(fared!(convert_f64_to_f32, [9.0, f64::NAN, f64::INFINITY, 0.1], f32::NAN), within);
-    assert_eq!(fared!(convert_i64_to_f32, [9, 0, -1, 16_777_217], f32::NAN), within);
+    let floats = [9.0, f64::NAN, f64::INFINITY, 0.1];
+    assert_eq!(fared!(convert_f64_to_f32, floats, f32::NAN, TO_FLOAT), within);
+    assert_eq!(fared!(convert_i64_to_f32, [9, 0, -1, 16_777_217], f32::NAN, TO_FLOAT), within);
     let overrun = convert_f64_to_f32(&[1e300], &mut [0.0], &[], NearestEven, Clamp);
     assert_eq!(overrun, Ok(counts([0, 0, 0, 1, 0])));
 }
@@ -162,6 +168,11 @@ fn fields(call: impl FnOnce(*mut sys::Answer) -> u8) -> (u8, sys::Answer) {
 
 /// The number and the fields of a chunk call on the elements of an f64 source. With no targets, keys of any length but 0 are a broken map.
 fn by_bytes(src: &[f64], dst_len: usize, keys_len: usize, from: u8, to: Kind) -> (u8, sys::Answer) {
+    in_range(src, dst_len, keys_len, from, to, Refuse)
+}
+
+/// The same by a range choice.
+fn in_range(src: &[f64], dst_len: usize, keys_len: usize, from: u8, to: Kind, range: OutOfRangeMode) -> (u8, sys::Answer) {
     let (src, mut dst, keys) = (bytes!(src), vec![0u8; dst_len], vec![0u8; keys_len]);
     fields(|answer| {
         // SAFETY: each pointer is good for its length, and what is written overlaps nothing.
@@ -178,7 +189,7 @@ fn by_bytes(src: &[f64], dst_len: usize, keys_len: usize, from: u8, to: Kind) ->
                 from,
                 to as u8,
                 0,
-                0,
+                range as u8,
                 answer,
             )
         }
@@ -202,6 +213,7 @@ fn every_field_is_written() {
         (6, refused(300.0, [-128i64 as u64, 127]))
     );
     assert_eq!(by_bytes(&[1.0, 1e300], 8, 0, 9, Kind::F32), (7, refused(1e300, f32_ends())));
+    assert_eq!(in_range(&[1.0, 1e300], 8, 0, 9, Kind::F32, Wrap), (8, none));
 }
 
 /// The fields where the second element is refused and the first is exact.

@@ -170,13 +170,20 @@ fn an_untouched_nan_keeps_its_bits() {
     const SIGNALLING: u32 = 0x7fa0_0001;
     let bits = |dst: &[f32]| dst.iter().map(|x| x.to_bits()).collect::<Vec<_>>();
     for rounding in ROUNDINGS {
-        for range in [OutOfRangeMode::None, OutOfRangeMode::Wrap] {
-            let mut dst = [f32::from_bits(SIGNALLING); 5];
-            let answer = convert_f64_to_f32(&[1.0, 1e300, f64::NAN, 2.0, 1e300], &mut dst, &[], rounding, range);
-            assert!(matches!(answer.unwrap_err().error, CastError::FloatOutOfRange { position: 1, .. }));
-            assert_eq!(bits(&dst), [1.0f32.to_bits(), SIGNALLING, SIGNALLING, SIGNALLING, SIGNALLING]);
-        }
+        let mut dst = [f32::from_bits(SIGNALLING); 5];
+        let answer = convert_f64_to_f32(&[1.0, 1e300, f64::NAN, 2.0, 1e300], &mut dst, &[], rounding, OutOfRangeMode::None);
+        assert!(matches!(answer.unwrap_err().error, CastError::FloatOutOfRange { position: 1, .. }));
+        assert_eq!(bits(&dst), [1.0f32.to_bits(), SIGNALLING, SIGNALLING, SIGNALLING, SIGNALLING]);
         let mut dst = [f32::from_bits(SIGNALLING); 2];
+        let barred = Err(Refused {
+            error: CastError::BarredWrap,
+            counts: Counts::default(),
+        });
+        for len in 0..3 {
+            let (floats, integers) = (&[1.0, 2.0][..len], &[1, 2][..len]);
+            assert_eq!(convert_f64_to_f32(floats, &mut dst, &[], rounding, OutOfRangeMode::Wrap), barred);
+            assert_eq!(convert_i64_to_f32(integers, &mut dst, &[], rounding, OutOfRangeMode::Wrap), barred);
+        }
         let mismatch = Err(Refused {
             error: CastError::LengthMismatch { src_len: 1, dst_len: 2 },
             counts: Counts::default(),
