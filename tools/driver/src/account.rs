@@ -1,6 +1,6 @@
 //! An account of the counts of its own: the class of each element, from its bits, the keys and the settings, by integer arithmetic alone. It calls
 //! neither the library nor the original, and no floating-point operation.
-use crate::{is_float, width, Settings};
+use crate::{width, Settings};
 use polskrea::Counts;
 
 /// How an element fares.
@@ -59,7 +59,7 @@ fn each<const FROM: u8, const TO: u8>(s: Settings, src: &[u8], keys: &[u8], out:
     let keys: Vec<u64> = keys.chunks_exact(width(FROM)).map(bits).collect();
     let past = match s.range {
         1 => Class::Clamped,
-        2 if !is_float(TO) => Class::Wrapped,
+        2 => Class::Wrapped,
         _ => Class::Refused,
     };
     out.clear();

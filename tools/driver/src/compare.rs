@@ -1,8 +1,8 @@
 //! One chunk on both sides, what is counted, and the differences.
 use crate::account::{self, Class};
 use crate::{
-    first_difference, has_typed, is_nan, lengths_differ, ours, ours_typed, pattern, put, reference, slices, width, Answer, Reference,
-    Settings,
+    barred, first_difference, has_typed, is_nan, lengths_differ, names_position, ours, ours_typed, pattern, put, reference, slices, width,
+    Answer, Reference, Settings,
 };
 use polskrea::Counts;
 use std::collections::BTreeMap;
@@ -273,7 +273,7 @@ impl Check {
             return;
         }
         let end = refused.map_or(c.count(), |r| r.position as usize);
-        let at = if 5 <= got.number {
+        let at = if names_position(got.number) {
             end.min(start + got.position as usize)
         } else {
             end
@@ -384,8 +384,8 @@ impl Check {
     fn counts_due(&mut self, s: Settings, src: &[u8], keys: &[u8], answer: &Answer) -> Counts {
         let converted = match answer.number {
             0 => (src.len() / width(s.from)) as u64,
-            1..=4 => return Counts::default(),
-            _ => answer.position,
+            n if names_position(n) => answer.position,
+            _ => return Counts::default(),
         };
         account::classes(s, src, keys, &mut self.classes);
         let before = self.classes.split(|c| *c == Class::Refused).next().unwrap_or_default();
@@ -491,7 +491,7 @@ fn whole_elements(s: Settings, src: usize, dst: usize) -> bool {
     src % width(s.from) == 0 && dst % width(s.to) == 0
 }
 
-/// Document 01's table for the refusals 1 to 4; `None` where the call reaches the elements.
+/// The papers' table for the refusals 1 to 4 and 8; `None` where the call reaches the elements.
 pub fn checks(s: Settings, src: usize, dst: usize, keys: usize, targets: usize) -> Option<Answer> {
     let plain = |number| {
         Some(Answer {
@@ -501,6 +501,9 @@ pub fn checks(s: Settings, src: usize, dst: usize, keys: usize, targets: usize) 
     };
     if 10 <= s.from || 10 <= s.to || 5 <= s.rounding || 3 <= s.range {
         return plain(1);
+    }
+    if barred(s) {
+        return plain(8);
     }
     let (sw, dw) = (width(s.from), width(s.to));
     if !whole_map(s, keys, targets) {

@@ -53,6 +53,21 @@ impl Settings {
     }
 }
 
+/// Whether a refusal of this number names the position of an element.
+pub fn names_position(number: u8) -> bool {
+    (5..=7).contains(&number)
+}
+
+/// Settings with wrap and a float target, which 8 refuses. The original accepts them, and is not consulted for them.
+pub fn barred(s: Settings) -> bool {
+    s.range == 2 && is_float(s.to)
+}
+
+/// The settings that the original is consulted for: 1,400 of those that are listed.
+pub fn permitted_settings() -> Vec<Settings> {
+    all_settings().into_iter().filter(|s| !barred(*s)).collect()
+}
+
 /// All settings that are listed, 10 x 10 x 5 x 3.
 pub fn all_settings() -> Vec<Settings> {
     let mut all = Vec::new();
@@ -83,7 +98,7 @@ pub struct Answer {
 impl Answer {
     /// Equal, with the value of 5 to 7 a NaN where the other's is one.
     pub fn same(&self, other: &Answer) -> bool {
-        let nan = |a: &Answer| 5 <= a.number && f64::from_bits(a.value).is_nan();
+        let nan = |a: &Answer| names_position(a.number) && f64::from_bits(a.value).is_nan();
         if nan(self) && nan(other) {
             let value = other.value;
             return Answer { value, ..*self } == *other;
@@ -447,7 +462,7 @@ macro_rules! by_source {
     };
 }
 
-/// Fills `out` by the original's element functions, for listed settings, whole elements and a whole map. What is refused holds 0.
+/// Fills `out` by the original's element functions, for permitted settings, whole elements and a whole map. What is refused holds 0.
 pub fn reference(s: Settings, src: &[u8], keys: &[u8], targets: &[u8], out: &mut Reference) {
     out.stored.clear();
     out.stored.resize(src.len() / width(s.from) * width(s.to), 0);
@@ -455,7 +470,7 @@ pub fn reference(s: Settings, src: &[u8], keys: &[u8], targets: &[u8], out: &mut
     by_source!(int_int, int_float, float_int, float_float, s, (s, src, keys, targets, out))
 }
 
-/// The original's slice function, for listed settings, whole elements at their alignment and a whole map. A refusal is 4 with both counts, or
+/// The original's slice function, for permitted settings, whole elements at their alignment and a whole map. A refusal is 4 with both counts, or
 /// that of an element, at the position 0, for the original names none.
 pub fn slices(s: Settings, src: &[u8], keys: &[u8], targets: &[u8], dst: &mut [u8]) -> Answer {
     let result = by_source!(

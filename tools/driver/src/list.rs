@@ -1,7 +1,7 @@
 //! The fixed list: a sample of the reference's answers, for the program `replay`.
 use driver::compare::whole_call;
 use driver::samples::{edges, Random};
-use driver::{all_settings, is_float, reference, width, Answer, Reference, Settings};
+use driver::{all_settings, barred, is_float, permitted_settings, reference, width, Answer, Reference, Settings};
 
 /// A map and elements that often meet it.
 pub struct Sample {
@@ -197,7 +197,7 @@ pub fn write(file: &str) {
     let mut out: Vec<u8> = Vec::new();
     let edge: Vec<Vec<u64>> = (0..10).map(edges).collect();
     let mut r = Random(0x4000);
-    for (i, s) in all_settings().into_iter().enumerate() {
+    for (i, s) in permitted_settings().into_iter().enumerate() {
         let patterns = telling(s.from);
         let mut reference_of = Reference::default();
         reference(s, &bytes_of(s.from, &patterns), &[], &[], &mut reference_of);
@@ -276,6 +276,14 @@ pub fn write(file: &str) {
                 case(&mut out, 4, s, &zeros[..lengths.0], lengths.1, &[], &[]);
             }
         }
+    }
+    // 5: wrap with a float target, for three elements, for none, and with every length broken in turn
+    for s in all_settings().into_iter().filter(|s| barred(*s)) {
+        let (sw, dw) = (width(s.from), width(s.to));
+        case(&mut out, 5, s, &zeros[..3 * sw], 3 * dw, &[], &[]);
+        case(&mut out, 5, s, &[], 0, &zeros[..sw], &mark[..dw]);
+        let broken = [(sw, dw + 1, 0, 0), (sw, dw, sw, 0), (2 * sw, dw, 0, 0)][s.rounding as usize % 3];
+        case(&mut out, 5, s, &zeros[..broken.0], broken.1, &zeros[..broken.2], &mark[..broken.3]);
     }
     std::fs::write(file, &out).unwrap_or_else(|e| panic!("{file}: {e}"));
     println!("{file}: {} bytes", out.len());

@@ -2,7 +2,7 @@
 //! `--step N` takes one run of patterns in N in the sweeps over 32-bit kinds; `--list FILE` writes the fixed list and compares nothing.
 use driver::compare::{Check, Tally};
 use driver::samples::{biased, edges, Random};
-use driver::{all_settings, put, reference, width, Reference, Settings, KINDS, RANGES, RULES};
+use driver::{all_settings, barred, permitted_settings, put, reference, width, Reference, Settings, KINDS, RANGES, RULES};
 use std::sync::atomic::{AtomicUsize, Ordering};
 use std::sync::Mutex;
 use std::time::Instant;
@@ -34,8 +34,9 @@ fn spread(n: usize, work: impl Fn(&mut Check, usize) + Sync, each: impl Fn(usize
     total.into_inner().unwrap()
 }
 
-const SECTIONS: [&str; 12] = [
+const SECTIONS: [&str; 13] = [
     "settings",
+    "barred",
     "small",
     "maps",
     "malformed",
@@ -91,10 +92,10 @@ fn sorted(s: Settings, patterns: &[u64]) -> (Vec<u64>, Vec<u64>) {
     (yes, no)
 }
 
-/// Every setting: every edge of the source kind, and chunks with a refusal early, in the middle, late and not at all.
+/// Every setting that the original is consulted for: every edge of the source kind, and chunks with a refusal early, in the middle, late and not at all.
 fn settings(report: &mut Report) {
     let since = Instant::now();
-    let all = all_settings();
+    let all = permitted_settings();
     let edge: Vec<Vec<u64>> = (0..10).map(edges).collect();
     let t = spread(
         all.len(),
@@ -125,16 +126,52 @@ fn settings(report: &mut Report) {
         |_| {},
     );
     report.section(
-        "all 1,500 settings on every edge of the source kind, refusals early, late and none",
+        "1,400 settings on every edge of the source kind, refusals early, late and none",
         since,
         t,
     );
 }
 
-/// Every pattern of the 8- and 16-bit kinds, in every setting.
+/// Wrap with a float target, by the papers' table: chunks of edges of every length, the empty one, with a map and without; lengths that are broken.
+fn barred_wrap(report: &mut Report) {
+    let since = Instant::now();
+    let all: Vec<Settings> = all_settings().into_iter().filter(|s| barred(*s)).collect();
+    let edge: Vec<Vec<u64>> = (0..10).map(edges).collect();
+    let t = spread(
+        all.len(),
+        |check, i| {
+            let s = all[i];
+            let (sw, dw) = (width(s.from), width(s.to));
+            let own = &edge[s.from as usize];
+            let mut r = Random(0x5000 + i as u64);
+            for length in [0, 1, 2, 3, 7, 16, 65, 300] {
+                let m = list::a_map(s, &edge, length, &mut r);
+                let (keys, targets) = (bytes_of(s.from, &m.keys), bytes_of(s.to, &m.targets));
+                let patterns: Vec<u64> = (0..length).map(|_| own[r.below(own.len() as u64) as usize]).collect();
+                let src = bytes_of(s.from, &patterns);
+                for mark in [0x00, 0x5a, 0xff] {
+                    let dst = vec![mark; length * dw + 1];
+                    let whole = &dst[..length * dw];
+                    check.call(s, &src, whole, &[], &[]);
+                    check.call(s, &src, whole, &keys, &targets);
+                    check.call(s, &src, whole, &keys, &dst[..length % 2]);
+                    check.call(s, &src, &dst, &keys, &targets);
+                    check.call(s, &src[..src.len().saturating_sub(sw)], whole, &keys, &targets);
+                }
+            }
+        },
+        |_| {},
+    );
+    report.section("the 100 settings with wrap and a float target, by the papers' table", since, t);
+}
+
+/// Every pattern of the 8- and 16-bit kinds, in every setting that the original is consulted for.
 fn small_kinds(report: &mut Report) {
     let since = Instant::now();
-    let all: Vec<Settings> = all_settings().into_iter().filter(|s| matches!(s.from, 0 | 1 | 4 | 5)).collect();
+    let all: Vec<Settings> = permitted_settings()
+        .into_iter()
+        .filter(|s| matches!(s.from, 0 | 1 | 4 | 5))
+        .collect();
     let t = spread(
         all.len(),
         |check, i| {
@@ -145,16 +182,19 @@ fn small_kinds(report: &mut Report) {
         |_| {},
     );
     report.section(
-        "every pattern of i8, i16, u8 and u16 to every target, in every rule and range",
+        "every pattern of i8, i16, u8 and u16 to every target, in every rule and range but wrap to a float",
         since,
         t,
     );
 }
 
-/// Random elements of the 32- and 64-bit kinds in every setting, biased to halfway points and ends.
+/// Random elements of the 32- and 64-bit kinds in every such setting, biased to halfway points and ends.
 fn random(report: &mut Report, wide: usize, narrow: usize) {
     let since = Instant::now();
-    let all: Vec<Settings> = all_settings().into_iter().filter(|s| !matches!(s.from, 0 | 1 | 4 | 5)).collect();
+    let all: Vec<Settings> = permitted_settings()
+        .into_iter()
+        .filter(|s| !matches!(s.from, 0 | 1 | 4 | 5))
+        .collect();
     let t = spread(
         all.len(),
         |check, i| {
@@ -168,13 +208,13 @@ fn random(report: &mut Report, wide: usize, narrow: usize) {
         },
         |_| {},
     );
-    report.section("random elements of i32, i64, u32, u64, f32 and f64 in every setting", since, t);
+    report.section("random elements of i32, i64, u32, u64, f32 and f64 in the 1,400 settings", since, t);
 }
 
-/// Maps with NaNs, zeros of both signs, infinities and duplicates, in every setting.
+/// Maps with NaNs, zeros of both signs, infinities and duplicates, in every such setting.
 fn maps(report: &mut Report, rounds: usize) {
     let since = Instant::now();
-    let all = all_settings();
+    let all = permitted_settings();
     let edge: Vec<Vec<u64>> = (0..10).map(edges).collect();
     let t = spread(
         all.len(),
@@ -201,7 +241,7 @@ fn maps(report: &mut Report, rounds: usize) {
 #[repr(align(8))]
 struct Aligned([u8; 64]);
 
-/// Broken lengths and bad codes, against document 01's table; counts that differ, against the original's slice functions too.
+/// Broken lengths and bad codes, against the papers' table; counts that differ, against the original's slice functions too.
 fn malformed(report: &mut Report, deep: bool) {
     let since = Instant::now();
     let t = spread(
@@ -246,7 +286,7 @@ fn malformed(report: &mut Report, deep: bool) {
         },
         |_| {},
     );
-    report.section("broken lengths and bad codes, by the table of document 01", since, t);
+    report.section("broken lengths and bad codes, by the papers' table", since, t);
 }
 
 /// The patterns of a 32-bit kind, each of them or every so many chunks, for one conversion in each of the five rules.
@@ -373,6 +413,7 @@ fn main() {
         }
         match name {
             "settings" => settings(&mut report),
+            "barred" => barred_wrap(&mut report),
             "small" => small_kinds(&mut report),
             "maps" => maps(&mut report, if quick { 20 } else { 200 }),
             "malformed" => malformed(&mut report, !quick),
