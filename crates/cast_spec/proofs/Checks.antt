@@ -11,6 +11,7 @@ use lib.ListN.{length, drop, length-append, length-drop}
 use Rattle.bytes_le.specs.Bytes.{toLe}
 use Rattle.bytes_le.proofs.Sums.{length-toLe}
 use Rattle.kinds.specs.Answer.{numberOf, namesPosition}
+use Rattle.kinds.proofs.Numbers.{both}
 use Rattle.kinds.specs.declared.Outcome.{Outcome}
 use Rattle.kinds.specs.declared.Outcome.the-variants.{Stored, NanOrInf, OutOfRange, FloatOutOfRange}
 use Rattle.kinds.specs.declared.Answer.{Answer}
@@ -43,10 +44,6 @@ tested-by P (c ∷ cs) x h g = go (c .passes) (tested-by P cs x (h .1)) g
 chosen : (a : Bool) (x y : List ℕ) → T a → cond a x y ≡ x
 chosen true x y t = refl
 chosen false x y t = absurd t
-
-both : (a b : Bool) → T (a && b) → T a × T b
-both true b h = (tt, h)
-both false b h = absurd h
 
 -- ---- each check of a call that passes
 module _ (I : Inputs) (t : T (callOf I .passed)) where
@@ -114,7 +111,7 @@ module _ (I : Inputs) where
   long-written h = length-bytes (outcomeAt (callOf I)) (dw I) (callOf I .count) 0 (I .destination) (le-of-eq (elements-fill I h))
 
 -- ---- the cause of each number, where the checks give a, b, c, d and e, the elements' answer is x, and s and t are the counts
-abbrev pub checked : Bool → Bool → Bool → Bool → Bool → Answer → ℕ → ℕ → Answer
+abbrev checked : Bool → Bool → Bool → Bool → Bool → Answer → ℕ → ℕ → Answer
 checked a b c d e x s t = cond a (cond b (cond c (cond d (cond e x (A.LengthMismatch s t)) A.BrokenElement) A.BrokenMap) A.BarredWrap) A.UnknownCode
 
 pub record Causes (a b c d e : Bool) (r : Answer) : Type 0 where

@@ -221,7 +221,7 @@ chunks =
     ∷ call (inputs (0 ∷ []) (old 3) [] [] 4 5 0 0) A.BrokenElement noCounts (old 3)
     -- 4: "element counts differ", with "both counts"
     ∷ call (plain (toLe 8 0 ++ toLe 8 0) (old 3) 0) (A.LengthMismatch 2 3) noCounts (old 3)
-    -- "Two empty chunks that pass 1 to 4 are accepted."
+    -- "Two empty chunks that pass 1 to 4 are accepted", where 8 does not refuse them
     ∷ call (plain [] [] 0) A.Converted noCounts []
     -- "Number 5 is given under clamp and wrap too.": 2.5, NaN
     ∷ call (plain (toLe 8 0x4004_0000_0000_0000 ++ toLe 8 0x7ff8_0000_0000_0000) (old 2) 1) (A.NanOrInf 1 0x7ff8_0000_0000_0000) (five 0 0 1 0 0) (2 ∷ 0xa1 ∷ [])

@@ -76,7 +76,7 @@ module _ (I : Inputs) where
   abbrev pub countsMeet : Bool
   countsMeet = eqb (length (I .source) / sw) (length (I .destination) / dw)
 
--- ---- the checks before the elements: each with what passes it, and the refusal where it does not
+-- ---- the checks before the elements: each with whether it is passed, and the refusal where it is not
 pub record Check : Type 0 where
   pub passes : Bool
   pub refusal : Answer

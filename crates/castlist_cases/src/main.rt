@@ -156,6 +156,9 @@ fn long() {
     show(b"a map past byte 8,192\n", &whole);
     whole[1] = 10;
     show(b"a map past byte 8,192, target kind 10\n", &whole);
+    whole[1] = 8;
+    whole[3] = 2;
+    show(b"wrap to f32, longer input\n", &whole);
 }
 
 fn main() {

@@ -1,4 +1,4 @@
--- A refusal names a position or leaves all the destination as it was, and none does both: of the numbers up to 8 those are 1 to 4 and 8.
+-- A refusal names a position or leaves all the destination as it was, and none does both; of the numbers up to 8, 1 to 4 and 8 leave all.
 use mathlib.Core.Path.{_≡_, sym, subst}
 use mathlib.Core.Logic.{_⊎_, inl, inr}
 use mathlib.Core.Bool.{Bool, true, false, _&&_, not}
@@ -9,7 +9,7 @@ use borrow.Author.Tests.{lt-ltb, le-leb}
 use Rattle.grid.proofs.Neighbours.{cut}
 use Rattle.kinds.specs.Answer.{namesPosition, leavesAll}
 
-both : (a b : Bool) → T (a && b) → T a × T b
+pub both : (a b : Bool) → T (a && b) → T a × T b
 both true b h = (tt, h)
 both false b h = absurd h
 

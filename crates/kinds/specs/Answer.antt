@@ -1,4 +1,4 @@
--- To be believed: the papers' number and values for each case of an answer, and of what one element comes to.
+-- To be believed: the papers' number and values for each case of an answer, and of what one element comes to; what a number leaves of the destination.
 use mathlib.Core.Bool.{Bool, _&&_, not}
 use Prim.Native.Nat.{ℕ}
 use lib.Dec.{ltb, leb}
@@ -10,7 +10,7 @@ use Rattle.kinds.specs.declared.Answer.{Answer}
 use Rattle.kinds.specs.declared.Answer.the-variants.{Converted, UnknownCode, BrokenMap, BrokenElement, LengthMismatch, NanOrInf, OutOfRange, FloatOutOfRange, BarredWrap}
 use Rattle.kinds.specs.declared.Reply.{Reply}
 
--- ---- the column "number" of the table "What the chunk call answers"; 0 where all is converted
+-- ---- the column "number" of the table "What the chunk call answers", and 8 "for wrap with target kind f32 or f64"; 0 where all is converted
 abbrev pub numberOf : Answer → ℕ
 numberOf Converted = 0
 numberOf UnknownCode = 1

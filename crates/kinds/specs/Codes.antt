@@ -1,4 +1,4 @@
--- To be believed: the codes of a call: kinds, roundings and range choices.
+-- To be believed: the codes of a call: kinds, roundings and range choices, and which of them are barred together.
 use mathlib.Core.Bool.{Bool, true, false, _&&_, cond}
 use Prim.Native.Nat.{ℕ, zero, suc, _-_, _*_, _^_}
 use lib.Dec.{eqb, ltb}

@@ -5,7 +5,7 @@ ghost use Rattle.answer_fields.specs.Returned.{Returned};
 ghost use Rattle.polskrea.specs.Version.{version};
 use answer_fields::Fields;
 
-// Converts a chunk, returns the answer's number, 0 to 7, and leaves its fields in `answer`.
+// Converts a chunk, returns the answer's number, 0 to 8, and leaves its fields in `answer`.
 #[no_mangle]
 pub extern "C" fn polskrea_convert(
     src: &[u8],

@@ -10,7 +10,7 @@ use typed_entries::EntryF64I32;
 use typed_entries::EntryF64U8;
 use typed_entries::EntryI64F32;
 
-// Converts f64 elements to u8 with a slice of entries, returns the answer's number, 0 to 7, and leaves its fields in `answer`.
+// Converts f64 elements to u8 with a slice of entries, returns the answer's number, 0 to 8, and leaves its fields in `answer`.
 #[no_mangle]
 pub extern "C" fn polskrea_convert_f64_to_u8(
     src: &[f64],

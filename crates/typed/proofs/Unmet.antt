@@ -1,4 +1,4 @@
--- The numbers that no typed call gives: "Typed entries cannot meet 2 or 3", and to an integer kind wrap is not barred, so not 8.
+-- Numbers that a typed call cannot give: "Typed entries cannot meet 2 or 3", and to an integer kind not 8, for there wrap is not barred.
 use mathlib.Core.Path.{_≡_, refl, sym, ap, _∙_}
 use mathlib.Core.Bool.{Bool, true, false, _&&_, not, true≢false}
 use mathlib.Core.List.{List, map}
