@@ -116,8 +116,8 @@ uint8_t polskrea_convert(const uint8_t *src, size_t src_len,
 
 /*
  * Typed calls: slices of numbers in place of bytes, and one slice of map entries. Same steps, same numbers, same fields as
- * polskrea_convert on the elements' bytes. Every length counts ELEMENTS. They cannot answer 2 or 3, and 8 only to f32. They stand in
- * libpolskrea_typed.a.
+ * polskrea_convert on the elements' bytes. Every length counts ELEMENTS. They cannot answer 2 or 3, and answer 8 only where the
+ * target is f32. They stand in libpolskrea_typed.a.
  *
  * A NaN's own bits play no part: as the value of refusal 5 every NaN is 0x7ff8000000000000, and which NaN pattern a stored NaN has is free.
  * A place of `dst` that is left as it was is not written. Of a float that is a NaN the proof says only that it is still a NaN; that it keeps its

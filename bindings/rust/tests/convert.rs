@@ -199,6 +199,8 @@ fn barred_wrap() {
             assert_eq!(number(len, none, 0, 2), 8);
             assert_eq!(number(len, broken, 0, 2), 8);
         }
+        let four_or_two = convert_codes(&[0; 8], &mut [0xee; 16], none, 9, to as u8, 0, 2).unwrap_err();
+        assert_eq!(four_or_two.error, CastError::BarredWrap, "one element into more whole places");
         assert_eq!(number(8, broken, 0, 1), 2);
         assert_eq!(number(8, none, 0, 0), 3);
         assert_eq!(

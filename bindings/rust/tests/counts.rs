@@ -168,11 +168,11 @@ fn fields(call: impl FnOnce(*mut sys::Answer) -> u8) -> (u8, sys::Answer) {
 
 /// The number and the fields of a chunk call on the elements of an f64 source. With no targets, keys of any length but 0 are a broken map.
 fn by_bytes(src: &[f64], dst_len: usize, keys_len: usize, from: u8, to: Kind) -> (u8, sys::Answer) {
-    in_range(src, dst_len, keys_len, from, to, Refuse)
+    by_bytes_under(src, dst_len, keys_len, from, to, Refuse)
 }
 
 /// The same by a range choice.
-fn in_range(src: &[f64], dst_len: usize, keys_len: usize, from: u8, to: Kind, range: OutOfRangeMode) -> (u8, sys::Answer) {
+fn by_bytes_under(src: &[f64], dst_len: usize, keys_len: usize, from: u8, to: Kind, range: OutOfRangeMode) -> (u8, sys::Answer) {
     let (src, mut dst, keys) = (bytes!(src), vec![0u8; dst_len], vec![0u8; keys_len]);
     fields(|answer| {
         // SAFETY: each pointer is good for its length, and what is written overlaps nothing.
@@ -213,7 +213,7 @@ fn every_field_is_written() {
         (6, refused(300.0, [-128i64 as u64, 127]))
     );
     assert_eq!(by_bytes(&[1.0, 1e300], 8, 0, 9, Kind::F32), (7, refused(1e300, f32_ends())));
-    assert_eq!(in_range(&[1.0, 1e300], 8, 0, 9, Kind::F32, Wrap), (8, none));
+    assert_eq!(by_bytes_under(&[1.0, 1e300], 8, 0, 9, Kind::F32, Wrap), (8, none));
 }
 
 /// The fields where the second element is refused and the first is exact.
@@ -229,6 +229,9 @@ fn f32_ends() -> [u64; 2] {
 /// The number and the fields of a typed call with no map, into so many places.
 macro_rules! by_numbers {
     ($call:ident, $src:expr, $target:ty, $places:expr, $rounding:expr) => {
+        by_numbers!($call, $src, $target, $places, $rounding, 0)
+    };
+    ($call:ident, $src:expr, $target:ty, $places:expr, $rounding:expr, $range:expr) => {
         fields(|answer| {
             let (src, mut dst) = ($src, vec![<$target>::default(); $places]);
             // SAFETY: each pointer is good for its length, and what is written overlaps nothing.
@@ -241,7 +244,7 @@ macro_rules! by_numbers {
                     null(),
                     0,
                     $rounding,
-                    0,
+                    $range,
                     answer,
                 )
             }
@@ -249,22 +252,30 @@ macro_rules! by_numbers {
     };
 }
 
-/// The five typed calls, each on an element that is exact and one that is rounded.
-fn all_five(places: usize, rounding: u8) -> [(u8, sys::Answer); 5] {
+/// The five typed calls, each on an element that is exact and one that is rounded; the last two are to f32.
+fn all_five(places: usize, rounding: u8, range: u8) -> [(u8, sys::Answer); 5] {
     [
-        by_numbers!(polskrea_convert_f64_to_u8, [1.0, 2.5], u8, places, rounding),
-        by_numbers!(polskrea_convert_f64_to_i32, [1.0, 2.5], i32, places, rounding),
-        by_numbers!(polskrea_convert_f32_to_u8, [1.0, 2.5], u8, places, rounding),
-        by_numbers!(polskrea_convert_f64_to_f32, [1.0, 0.1], f32, places, rounding),
-        by_numbers!(polskrea_convert_i64_to_f32, [1, 16_777_217], f32, places, rounding),
+        by_numbers!(polskrea_convert_f64_to_u8, [1.0, 2.5], u8, places, rounding, range),
+        by_numbers!(polskrea_convert_f64_to_i32, [1.0, 2.5], i32, places, rounding, range),
+        by_numbers!(polskrea_convert_f32_to_u8, [1.0, 2.5], u8, places, rounding, range),
+        by_numbers!(polskrea_convert_f64_to_f32, [1.0, 0.1], f32, places, rounding, range),
+        by_numbers!(polskrea_convert_i64_to_f32, [1, 16_777_217], f32, places, rounding, range),
     ]
 }
 
 #[test]
 fn every_field_is_written_by_the_typed_calls() {
-    assert_eq!(all_five(2, 0), [(0, answer([0; 6], [0, 1, 1, 0, 0])); 5]);
-    assert_eq!(all_five(2, 5), [(1, answer([0; 6], [0; 5])); 5]);
-    assert_eq!(all_five(1, 0), [(4, answer([2, 1, 0, 0, 0, 0], [0; 5])); 5]);
+    let (converted, none) = (answer([0; 6], [0, 1, 1, 0, 0]), answer([0; 6], [0; 5]));
+    let mismatch = answer([2, 1, 0, 0, 0, 0], [0; 5]);
+    assert_eq!(all_five(2, 0, 0), [(0, converted); 5]);
+    assert_eq!(all_five(2, 5, 0), [(1, none); 5]);
+    assert_eq!(all_five(2, 5, 2), [(1, none); 5]);
+    assert_eq!(all_five(1, 0, 0), [(4, mismatch); 5]);
+    let (three, two) = ([(0, converted); 3], [(8, none); 2]);
+    assert_eq!(all_five(2, 0, 2)[..3], three);
+    assert_eq!(all_five(2, 0, 2)[3..], two);
+    assert_eq!(all_five(1, 0, 2)[..3], [(4, mismatch); 3]);
+    assert_eq!(all_five(1, 0, 2)[3..], two);
 }
 
 #[test]

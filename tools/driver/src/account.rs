@@ -33,7 +33,7 @@ fn count(classes: &[Class], class: Class) -> u64 {
     classes.chunks(255).map(|r| u64::from(run(r))).sum()
 }
 
-/// The class of each element, for listed settings, whole elements and whole keys; behind a refused element too. Each pair of kinds has a loop of
+/// The class of each element, for permitted settings, whole elements and whole keys; behind a refused element too. Each pair of kinds has a loop of
 /// its own, with the kinds as constants and everything inlined, for speed.
 pub fn classes(s: Settings, src: &[u8], keys: &[u8], out: &mut Vec<Class>) {
     macro_rules! from {

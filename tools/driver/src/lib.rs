@@ -58,7 +58,7 @@ pub fn names_position(number: u8) -> bool {
     (5..=7).contains(&number)
 }
 
-/// Settings with wrap and a float target, which 8 refuses. The original accepts them, and is not consulted for them.
+/// Whether the settings have wrap and a float target: 8 refuses them, and the original, which accepts them, is not consulted.
 pub fn barred(s: Settings) -> bool {
     s.range == 2 && is_float(s.to)
 }

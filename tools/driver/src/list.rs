@@ -277,7 +277,7 @@ pub fn write(file: &str) {
             }
         }
     }
-    // 5: wrap with a float target, for three elements, for none, and with every length broken in turn
+    // 5: wrap with a float target, for three elements, for none, and with a broken destination, a broken map and counts that differ in turn
     for s in all_settings().into_iter().filter(|s| barred(*s)) {
         let (sw, dw) = (width(s.from), width(s.to));
         case(&mut out, 5, s, &zeros[..3 * sw], 3 * dw, &[], &[]);

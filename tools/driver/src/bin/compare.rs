@@ -132,7 +132,7 @@ fn settings(report: &mut Report) {
     );
 }
 
-/// Wrap with a float target, by the papers' table: chunks of edges of every length, the empty one, with a map and without; lengths that are broken.
+/// Wrap with a float target, by the papers' table: chunks of edges of eight lengths, the empty one among them, with a map and without; broken lengths.
 fn barred_wrap(report: &mut Report) {
     let since = Instant::now();
     let all: Vec<Settings> = all_settings().into_iter().filter(|s| barred(*s)).collect();
