@@ -7,7 +7,7 @@ use Prim.Native.Nat.{ℕ, _/_, _≤_, _<_}
 use native.Mathlib.Omega.{arith}
 use lib.Dec.{eqb, ltb}
 use lib.ListN.{length}
-use borrow.Author.Tests.{eqb-true, eq-eqb, ltb-true, leb-true}
+use borrow.Author.Tests.{eqb-true, eq-eqb, leb-true}
 use Rattle.grid.proofs.Neighbours.{cut}
 use Rattle.patterns.specs.Kind.{isFloat}
 use Rattle.kinds.specs.Answer.{numberOf}
@@ -15,23 +15,17 @@ use Rattle.kinds.specs.Codes.{kindOf, wrapBarred}
 use Rattle.kinds.specs.declared.Answer.{Answer}
 use Rattle.kinds.specs.declared.Answer.the-variants as A
 use Rattle.counts.specs.declared.Counts.{Counts}
-use Rattle.kinds.proofs.Listed.{float-from-8}
+use Rattle.kinds.proofs.Listed.{float-from-8, listed-codes}
+use Rattle.kinds.proofs.Numbers.{parts}
 use Rattle.cast_spec.specs.Chunk.{Inputs, sw, dw, codesListed, wrapPermitted, mapWhole, bytesWhole, countsMeet, Check, allPass, tested, callOf, outcomeAt, answerFrom, answerOf, bytesFrom, destinationOf, convertedOf, countsBelow, countsOf}
 use Rattle.cast_spec.proofs.Demand1.{demand1}
 
 -- ---- "8 for wrap with target kind f32 or f64", whatever the lengths, the map and the elements are
-parts : (a b : Bool) → a && b ≡ true → (a ≡ true) × (b ≡ true)
-parts true b e = (refl, e)
-parts false b e = absurd (true≢false (sym e))
-
 not-not : (b : Bool) → not b ≡ false → b ≡ true
 not-not true e = refl
 not-not false e = absurd (true≢false e)
 
 module _ (I : Inputs) where
-  to-listed : codesListed I ≡ true → I .to < 10
-  to-listed a = ltb-true (I .to) 10 (parts (ltb (I .from) 10) (ltb (I .to) 10) (parts (ltb (I .from) 10 && ltb (I .to) 10) (ltb (I .rounding) 5) (parts (ltb (I .from) 10 && ltb (I .to) 10 && ltb (I .rounding) 5) (ltb (I .range) 3) a .0) .0) .1)
-
   -- a listed float kind is f32 or f64
   float-code : I .to < 10 → isFloat (kindOf (I .to)) ≡ true → (I .to ≡ 8) ⊎ (I .to ≡ 9)
   float-code few e =
@@ -47,7 +41,7 @@ module _ (I : Inputs) where
     λ n.
         let c = demand1 I .barred-wrap .0 n in
         let p = parts (eqb (I .range) 2) (isFloat (kindOf (I .to))) (not-not (wrapBarred (I .to) (I .range)) (c .1)) in
-        (c .0, eqb-true (I .range) 2 (p .0), float-code (to-listed (c .0)) (p .1)),
+        (c .0, eqb-true (I .range) 2 (p .0), float-code (listed-codes (I .from) (I .to) (I .rounding) (I .range) (c .0) .1) (p .1)),
     λ c. demand1 I .barred-wrap .1 (c .0, ap not (barred (eq-eqb (I .range) 2 (c .1)) (is-float (c .2)))),
   )
     where

@@ -79,6 +79,10 @@ module _ (I : Inputs) where
   unfolding destinationOf
   destination-is t = chosen (callOf I .passed) _ _ t
 
+  pub not-passed : callOf I .passed ≡ false → destinationOf I ≡ I .destination
+  unfolding destinationOf
+  not-passed e = simp e
+
   pub counts-meet : T (callOf I .passed) → callOf I .count ≡ length (I .destination) / dw I
   unfolding callOf
   counts-meet h = eqb→eq (length (I .source) / sw I) (length (I .destination) / dw I) (counts-equal I h)

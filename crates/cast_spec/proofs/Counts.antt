@@ -42,6 +42,11 @@ at-place Wrapped = refl
 same-place : (f g : Fared) → placeOf f ≡ placeOf g → f ≡ g
 same-place f g e = sym (at-place f) ∙ ap faredAt e ∙ at-place g
 
+-- ---- one position more, which is not so
+pub miss : (P : ℕ → Type 0) (n k : ℕ) → (P n → ⊥) → HowMany P n k → HowMany P (suc n) k
+miss P n zero a r = (a, r)
+miss P n (suc k) a r = inr (a, r)
+
 -- ---- n stored elements
 module _ (o : ℕ → Outcome) where
   abbrev StoredAt : ℕ → Type 0
@@ -55,13 +60,9 @@ module _ (o : ℕ → Outcome) where
       subst (λ (u : Outcome). HowMany (P f) (suc n) (cond (faredAs f u) (suc (countBelow o f n)) (countBelow o f n))) (sym (x .2))
       (go (eqb (placeOf f) (placeOf (x .1))) refl (h n (x .1) (x .0) (x .2)) (how-many P h f n (λ i l. s i (omega arith))))
     where
-      miss : (k : ℕ) → (P f n → ⊥) → HowMany (P f) n k → HowMany (P f) (suc n) k
-      miss zero a r = (a, r)
-      miss (suc k) a r = inr (a, r)
-
       go : (t : Bool) → {g : Fared} → eqb (placeOf f) (placeOf g) ≡ t → P g n × ((g′ : Fared) → P g′ n → g ≡ g′) → HowMany (P f) n (countBelow o f n) → HowMany (P f) (suc n) (cond t (suc (countBelow o f n)) (countBelow o f n))
       go true {g} e q r = inl (subst (λ (z : Fared). P z n) (sym (same-place f g (eqb-true _ _ e))) (q .0), r)
-      go false {g} e q r = miss (countBelow o f n) (λ p. eqb-false _ _ e (ap placeOf (sym (q .1 f p)))) r
+      go false {g} e q r = miss (P f) n (countBelow o f n) (λ p. eqb-false _ _ e (ap placeOf (sym (q .1 f p)))) r
 
   -- they are n
   sum-is : (n : ℕ) → ((i : ℕ) → i < n → StoredAt i) → countBelow o Mapped n + countBelow o Exact n + countBelow o Rounded n + countBelow o Clamped n + countBelow o Wrapped n ≡ n

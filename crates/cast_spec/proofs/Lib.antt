@@ -11,6 +11,7 @@ pub mod Classes
 pub mod Counts
 pub mod Contract
 pub mod Refusals
+pub mod Previews
 pub mod Runs
 pub mod OneAnswer
 pub mod BarredWrap

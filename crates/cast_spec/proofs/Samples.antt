@@ -1,7 +1,8 @@
 -- The samples of document 01, the inputs that tell its false casts apart, and whole calls: tables, each proved by one theorem.
 use mathlib.Core.Path.{_≡_, refl}
 use mathlib.Core.List.{List, [], _∷_, _++_, map}
-use Prim.Native.Nat.{ℕ, _+_, _-_, _^_}
+use Prim.Native.Nat.{ℕ, _+_, _-_, _*_, _^_, _<_}
+use lib.Dec.{lit<}
 use lib.Ieee.{size}
 use lib.IntN.{pos, negℤ}
 use Rattle.grid.specs.Round.{pick}
@@ -21,7 +22,9 @@ use Rattle.cast_spec.specs.Element.{Entry, beyond, outcomeOf}
 use Rattle.patterns.specs.Pattern.{patternOf, nanPattern}
 use Rattle.kinds.specs.declared.Outcome.{Outcome}
 use Rattle.kinds.specs.declared.Outcome.the-variants.{Stored, NanOrInf, OutOfRange, FloatOutOfRange}
-use Rattle.cast_spec.specs.Chunk.{Inputs, inputs, settingsOf, callOf, outcomeAt, answerOf, countsOf, destinationOf}
+use Rattle.cast_spec.specs.Chunk.{Inputs, inputs, dw, settingsOf, callOf, outcomeAt, answerOf, countsOf, destinationOf, convertedOf}
+use Rattle.cast_spec.specs.Preview.{previewOf}
+use Rattle.kinds.specs.declared.Preview.{Preview}
 use Rattle.bytes_le.specs.Bytes.{toLe}
 use Rattle.kinds.specs.declared.Answer.{Answer}
 use Rattle.kinds.specs.declared.Answer.the-variants as A
@@ -234,3 +237,43 @@ chunks =
 pub chunks-hold : map (λ (s : Chunk). left (s .inputs)) chunks ≡ map (λ (s : Chunk). s .wanted) chunks
 unfolding chunks answerOf countsOf destinationOf callOf settingsOf outcomeAt ternaryOf outcomeOf beyond nanPattern patternOf valueOf lowest highest pick bitsMag size
 chunks-hold = refl
+
+-- ---- previews: the answer, the counts, and how many bytes would change
+pub record Foreseen : Type 0 where
+  pub inputs : Inputs
+  pub wanted : Preview
+
+abbrev preview : Inputs → Answer → Counts → ℕ → Foreseen
+preview I r t n = record { inputs = I; wanted = record { reply = record { answer = r; counts = t }; changed = n } }
+
+-- u16 1 over 0
+abbrev one-over-0 : Inputs
+one-over-0 = inputs (toLe 2 1) (toLe 2 0) [] [] 5 5 0 0
+
+unfoldable pub previews : List Foreseen
+previews =
+    -- two bytes are written, and one of them would change
+    preview one-over-0 A.Converted (five 0 1 0 0 0) 1
+    -- f64 0 over -0: one number, and one byte that would change
+    ∷ preview (inputs (toLe 8 0) (toLe 8 0x8000_0000_0000_0000) [] [] 9 9 0 0) A.Converted (five 0 1 0 0 0) 1
+    -- 7, 300 i16 to u8 over 0, 0: the 7 before the refused element counts
+    ∷ preview (inputs (toLe 2 7 ++ toLe 2 300) (0 ∷ 0 ∷ []) [] [] 1 4 0 0) (A.OutOfRange 1 0x4072_c000_0000_0000 (pos 0) 255) (five 0 1 0 0 0) 1
+    -- every element is of another byte than what stands there, and over what the call leaves none is
+    ∷ preview (mixed 1) A.Converted (five 2 1 1 1 0) 5
+    ∷ preview (inputs (mixed 1 .source) (2 ∷ 9 ∷ 7 ∷ 255 ∷ 100 ∷ []) (mixed 1 .keys) (mixed 1 .targets) 9 4 0 1) A.Converted (five 2 1 1 1 0) 0
+    -- refusals that leave all the destination as it was
+    ∷ preview (mixed 3) A.UnknownCode noCounts 0
+    ∷ preview (inputs (toLe 8 0) (old 4) [] [] 9 8 0 2) A.BarredWrap noCounts 0
+    ∷ preview (inputs [] [] (0 ∷ 1 ∷ []) (0 ∷ []) 4 4 0 0) A.BrokenMap noCounts 0
+    ∷ preview (plain (0 ∷ []) (old 3) 0) A.BrokenElement noCounts 0
+    ∷ preview (plain (toLe 8 0 ++ toLe 8 0) (old 3) 0) (A.LengthMismatch 2 3) noCounts 0
+    ∷ []
+
+pub previews-hold : map (λ (s : Foreseen). previewOf (s .inputs)) previews ≡ map (λ (s : Foreseen). s .wanted) previews
+unfolding previews previewOf answerOf countsOf destinationOf callOf settingsOf outcomeAt ternaryOf outcomeOf beyond nanPattern patternOf valueOf lowest highest pick bitsMag size
+previews-hold = refl
+
+-- more than none and fewer than all of the bytes that are written
+pub some-not-all : (0 < previewOf one-over-0 .changed) × (previewOf one-over-0 .changed < convertedOf (callOf one-over-0 .count) (answerOf one-over-0) * dw one-over-0)
+unfolding previewOf answerOf destinationOf callOf settingsOf outcomeAt ternaryOf outcomeOf patternOf valueOf lowest highest pick bitsMag size
+some-not-all = (lit< tt, lit< tt)

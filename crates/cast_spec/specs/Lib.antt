@@ -6,3 +6,4 @@ pub mod Counted
 pub mod Contract
 pub mod NanBits
 pub mod Fit
+pub mod Preview

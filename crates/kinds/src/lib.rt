@@ -66,6 +66,12 @@ pub struct Reply {
     pub counts: Counts,
 }
 
+// What a preview returns: the reply of the call, and how many bytes of its destination the call would change.
+pub struct Preview {
+    pub reply: Reply,
+    pub changed: usize,
+}
+
 // What a conversion leaves of an element: the target pattern to store, and how the element fared, or why there is none.
 pub enum Fit {
     Pattern { pattern: u64, fared: Fared },
