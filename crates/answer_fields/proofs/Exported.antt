@@ -1,17 +1,19 @@
--- The chunk call's reply, handed out as a number and fields, is the definition's.
+-- The chunk call's reply and its preview, handed out as a number, fields and a figure, are the definitions'.
 use mathlib.Core.List.{List}
 use mathlib.Core.Path.{_≡_, ap, ap₂, _∙_, subst}
 use Prim.Native.Nat.{ℕ}
 use Rattle.kinds.specs.declared.Answer.{Answer}
 use Rattle.counts.specs.declared.Counts.{Counts}
+use Rattle.kinds.specs.declared.Preview.{Preview}
 use Rattle.kinds.specs.declared.Reply.{Reply}
 use Rattle.kinds.specs.Answer.{numberOf}
-use Rattle.cast_spec.specs.Chunk.{Inputs, callOf, answerOf, resultAt}
+use Rattle.cast_spec.specs.Chunk.{Inputs, callOf, answerOf, destinationOf, resultAt}
 use Rattle.cast_spec.specs.Counted.{Counted}
 use Rattle.cast_spec.specs.Demand1.{Demand1}
 use Rattle.cast_spec.specs.Demand3.{Demand3}
 use Rattle.cast_spec.specs.Contract.{Contract}
-use Rattle.answer_fields.specs.Returned.{fieldsOf, Returned}
+use Rattle.cast_spec.specs.Preview.{previewOf, Previewed}
+use Rattle.answer_fields.specs.Returned.{fieldsOf, Returned, ReturnedPreview}
 
 pub exported : (I : Inputs) (r : Reply) (n : ℕ) (fields d : List ℕ) → Contract I r d → n ≡ numberOf (r .answer) → fields ≡ fieldsOf (r .answer) (r .counts) → Returned I n fields d
 exported I r n fields d c e f = record {
@@ -21,4 +23,15 @@ exported I r n fields d c e f = record {
   demand1 = subst (λ (a : Answer). Demand1 I a d) (c .answer) (c .demand1);
   demand3 = subst (λ (a : Answer). Demand3 (callOf I) a (resultAt I d)) (c .answer) (c .demand3);
   counted = subst (λ (t : Counts). Counted (callOf I) (answerOf I) t) (c .counts) (subst (λ (a : Answer). Counted (callOf I) a (r .counts)) (c .answer) (c .counted));
+}
+
+pub exported-preview : (I : Inputs) (p : Preview) (n : ℕ) (fields : List ℕ) → Previewed I p → n ≡ numberOf (p .reply .answer) → fields ≡ fieldsOf (p .reply .answer) (p .reply .counts) → ReturnedPreview I n fields (p .changed)
+unfolding previewOf
+exported-preview I p n fields P e f = record {
+  number = e ∙ ap (λ (q : Preview). numberOf (q .reply .answer)) (P .figures);
+  answer = f ∙ ap (λ (q : Preview). fieldsOf (q .reply .answer) (q .reply .counts)) (P .figures);
+  changed = ap (λ (q : Preview). q .changed) (P .figures);
+  demand1 = subst (λ (q : Preview). Demand1 I (q .reply .answer) (destinationOf I)) (P .figures) (P .demand1);
+  counted = subst (λ (q : Preview). Counted (callOf I) (q .reply .answer) (q .reply .counts)) (P .figures) (P .counted);
+  changes = P .changes;
 }

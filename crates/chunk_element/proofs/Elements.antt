@@ -1,5 +1,5 @@
 -- One element with its map, and one place: what the parts of the call have in hand.
-use mathlib.Core.Path.{_≡_, refl, sym, ap, ap₂, subst, _∙_}
+use mathlib.Core.Path.{_≡_, sym, ap, ap₂, subst, _∙_}
 use mathlib.Core.List.{List}
 use Prim.Native.Nat.{ℕ, _+_, _*_, _^_, _≤_, _<_}
 use native.Mathlib.Nat.{le-of-eq, lt-of-lt-of-le}
@@ -15,11 +15,10 @@ use Rattle.kinds.specs.declared.IntegerFormat.{IntegerFormat}
 use Rattle.kinds.specs.declared.Lookup.{Lookup}
 use Rattle.kinds.specs.declared.Lookup.the-variants.{Missing}
 use Rattle.kinds.specs.declared.Outcome.{Outcome}
-use Rattle.kinds.specs.declared.Outcome.the-variants.{Stored, NanOrInf, OutOfRange, FloatOutOfRange}
 use Rattle.kinds.specs.declared.Fit.{Fit}
 use Rattle.kinds.specs.declared.Answer.the-variants.{Converted}
 use Rattle.cast_spec.specs.Element.{foundOr, lookupOf, outcomeOf}
-use Rattle.cast_spec.specs.Chunk.{answerNext, entriesFrom, Refuses}
+use Rattle.cast_spec.specs.Chunk.{answerNext, entriesFrom}
 use Rattle.cast_spec.proofs.Steps.{no-map}
 use Rattle.cast_spec.proofs.Widths.{byte-patterns}
 use Rattle.mapping.specs.Map.{MapBytes}
@@ -32,7 +31,7 @@ use Rattle.steps.proofs.Found.{found-outcome}
 use Rattle.routes.proofs.Routes.{route-row, source-kind, target-kind}
 use Rattle.chunk_element.specs.declared.Settings.{Settings}
 use Rattle.chunk_element.specs.Settings.{MapReady, Ready, settingsFor}
-use Rattle.chunk_element.specs.Place.{lookedUp, refusedAnswer, storedAt}
+use Rattle.chunk_element.specs.Place.{lookedUp, refusedAnswer}
 
 -- ---- two formats that are rows of the table
 pub format-pattern : (f : Format) (b : ℕ) → FormatRow f → b < 2 ^ bits (kindIn f) → FormatPattern b f
@@ -103,9 +102,3 @@ module _ (s : Settings) (keys targets : List ℕ) (map : MapReady s keys targets
 
   pub integer-kind : (f : IntegerFormat) → s .source ≡ Integer f → integer (f .signed) (8 * s .sw) ≡ kindIn (s .source)
   integer-kind f e = ap (integer (f .signed)) (sym (map .ready .source-bits) ∙ ap (λ (g : Format). bits (kindIn g)) e) ∙ ap kindIn (sym e)
-
-pub not-stored : (o : Outcome) (dst : List ℕ) (d w : ℕ) → Refuses o → dst ≡ storedAt (fitOf o) dst d w
-not-stored (Stored b _) dst d w r = absurd r
-not-stored (NanOrInf v) dst d w r = refl
-not-stored (OutOfRange v lo hi) dst d w r = refl
-not-stored (FloatOutOfRange v lo hi) dst d w r = refl

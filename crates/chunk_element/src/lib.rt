@@ -1,11 +1,11 @@
-// One element of a chunk: read at its byte, looked up in the map, taken through its steps, and stored at its place or refused.
+// One element of a chunk: read at its byte, looked up in the map and taken through its steps, and the answer where it is refused.
 ghost use mathlib.Core.Path.{_≡_};
 ghost use lib.ListN.{take, drop};
 ghost use Rattle.bytes_le.specs.Bytes.{fromLe};
 ghost use Rattle.cast_spec.specs.Element.{outcomeOf};
 ghost use Rattle.cast_spec.specs.Fit.{fitOf};
 ghost use Rattle.chunk_element.specs.Settings.{settingsFor};
-ghost use Rattle.chunk_element.specs.Place.{lookedUp, ElementReady, PlaceReady, SourceReady, refusedAnswer, ConvertedAt};
+ghost use Rattle.chunk_element.specs.Place.{lookedUp, ElementReady, PlaceReady, SourceReady, refusedAnswer};
 use grid::RoundingMode;
 use kinds::Answer;
 use kinds::Fit;
@@ -58,24 +58,12 @@ fn steps(b: u64, keys: &[u8], targets: &[u8], s: Settings) -> Fit
     routes::step(b, found, route, rounding, range)
 }
 
-// The element at the byte `input` of the source, stored at the byte `output` of the destination unless it is refused.
-pub fn convert_at(
-    src: &[u8],
-    dst: &mut [u8],
-    keys: &[u8],
-    targets: &[u8],
-    s: Settings,
-    input: usize,
-    output: usize,
-) -> Fit
-    requires { ⌜ PlaceReady s (now keys) (now targets) (now src) (now dst) input output ⌝ }
-    ensures { λ r. ⌜ ConvertedAt (settingsFor s (now (keys .entry)) (now (targets .entry))) (s .sw) (s .dw) (now (src .entry)) (now (dst .entry)) input output r (now (dst .exit)) ⌝ }
+// What the element at the byte `input` of the source comes to.
+pub fn fit_at(src: &[u8], keys: &[u8], targets: &[u8], s: Settings, input: usize) -> Fit
+    requires { ⌜ PlaceReady s (now keys) (now targets) (now src) input ⌝ }
+    ensures { λ r. ⌜ r ≡ fitOf (outcomeOf (settingsFor s (now (keys .entry)) (now (targets .entry))) (fromLe (take (s .sw) (drop input (now (src .entry)))))) ⌝ }
 {
-    let r = steps(bytes_le::read_le(src, input, s.sw), keys, targets, s);
-    if let Fit::Pattern { pattern, fared: _ } = r {
-        bytes_le::write_le(dst, output, s.dw, pattern);
-    }
-    r
+    steps(bytes_le::read_le(src, input, s.sw), keys, targets, s)
 }
 
 // The answer to the refusal of the element at the byte `input` of the source, which has this position, and whose steps leave this fit.

@@ -16,19 +16,20 @@ use Rattle.counts.proofs.Tallies as tallies
 use Rattle.counts.specs.declared.Counts.{Counts}
 use Rattle.counts.specs.declared.Fared.{Fared}
 use Rattle.kinds.specs.declared.Answer.{Answer}
+use Rattle.kinds.specs.declared.Reply.{Reply}
 use Rattle.chunk_element.specs.Settings.{settingsFor}
-use Rattle.chunk_element.specs.Place.{ConvertedAt, PlaceReady, refusedAnswer, storedAt}
-use Rattle.chunk_run.specs.Run.{RunReady, Ran, outcomes}
+use Rattle.chunk_element.specs.Place.{PlaceReady, refusedAnswer}
+use Rattle.chunk_run.specs.Run.{replyOf, RunReady, Ran, outcomes}
 use Rattle.kinds.specs.declared.Outcome.{Outcome}
 use Rattle.kinds.specs.declared.Outcome.the-variants.{Stored}
 use Rattle.kinds.specs.declared.Fit.{Fit}
 use Rattle.kinds.specs.declared.Fit.the-variants.{Pattern}
 use Rattle.cast_spec.specs.Fit.{fitOf}
 use Rattle.cast_spec.specs.Chunk.{answerFrom, answerNext, bytesFrom, convertedOf, countsBelow, Refuses}
-use Rattle.bytes_le.specs.Bytes.{fromLe, patternAt, toLe, put}
+use Rattle.bytes_le.specs.Bytes.{Place, fromLe, patternAt, toLe, put}
 use Rattle.bytes_le.proofs.Sums.{length-toLe}
 use Rattle.cast_spec.proofs.Outcomes.{stored-pattern}
-use Rattle.chunk_element.proofs.Elements.{not-stored, refused-is}
+use Rattle.chunk_element.proofs.Elements.{refused-is, target-place}
 use Rattle.kinds.specs.declared.Answer.the-variants as A
 use Rattle.cast_spec.specs.Element as E
 use Rattle.cast_spec.proofs.Runs as runs
@@ -73,57 +74,52 @@ module _ (S : E.Settings) (sw dw : ℕ) (src dst₀ : List ℕ) (n : ℕ) where
     counted-below = ap countsIn all ∙ at .counts
 
     -- so many are counted as the answer says are converted
-    counts-of : (r : Answer) → convertedOf n r ≡ i → (c : Counts) → c ≡ countsIn t′ → c ≡ countsBelow (outcomes S sw src) (convertedOf n r)
-    counts-of r e c is = is ∙ counted-below ∙ ap (countsBelow o) (sym e)
+    counts-of : (r : Answer) → convertedOf n r ≡ i → countsIn t′ ≡ countsBelow (outcomes S sw src) (convertedOf n r)
+    counts-of r e = counted-below ∙ ap (countsBelow o) (sym e)
 
-    pub ends : n ≤ i → (c : Counts) → c ≡ countsIn t′ → Ran S sw dw src dst₀ n (record { answer = A.Converted; counts = c }) dst
-    ends h c is =
+    pub ends : n ≤ i → (r : Reply) → r ≡ replyOf A.Converted (countsIn t′) → Ran S sw dw src dst₀ n r dst
+    ends h r is =
         let e : i ≡ n = omega (arith, at .order) in
         let d = runs.done o dw n finalAnswer finalBytes i dst (at .run) e in
-        record { answer = d .0; counts = counts-of A.Converted (sym e) c is; bytes = d .1 }
+        subst (λ (q : Reply). Ran S sw dw src dst₀ n q dst) (sym is) (record { answer = d .0; counts = counts-of A.Converted (sym e); bytes = d .1 })
 
-    module _ (more : i < n) (room : n * dw ≤ length dst₀) (r : Fit) (dst′ : List ℕ) (c : ConvertedAt S sw dw src dst x y r dst′) where
-      abbrev outcome : Outcome
-      outcome = outcomes S sw src i
-
+    -- the element at i has the fit r
+    module _ (more : i < n) (r : Fit) (is-fit : r ≡ fitOf (outcomeOf S (fromLe (take sw (drop x src))))) where
       pub fit-is : r ≡ fitOf (outcomes S sw src i)
-      fit-is = c .fit ∙ ap (λ (z : ℕ). fitOf (outcomeOf S (fromLe (take sw (drop z src))))) (at .source)
+      fit-is = is-fit ∙ ap (λ (z : ℕ). fitOf (outcomeOf S (fromLe (take sw (drop z src))))) (at .source)
 
-      pub stops : Refuses (outcomes S sw src i) → (a : Answer) → a ≡ answerNext (outcomes S sw src i) i A.Converted → (j : Counts) → j ≡ countsIn t′ → Ran S sw dw src dst₀ n (record { answer = a; counts = j }) dst′
-      stops f a e j is =
-          let g = runs.refused o dw n finalAnswer finalBytes i dst (at .run) more f in record {
-            answer = e ∙ sym (g .0);
-            counts = counts-of a (ap (convertedOf n) e ∙ refused-converted n i outcome f) j is;
-            bytes = c .bytes ∙ ap (λ (z : Fit). storedAt z dst y dw) fit-is ∙ sym (not-stored outcome dst y dw f) ∙ g .1;
-          }
+      pub stops : Refuses (outcomes S sw src i) → (a : Answer) → a ≡ answerNext (outcomes S sw src i) i A.Converted → (q : Reply) → q ≡ replyOf a (countsIn t′) → Ran S sw dw src dst₀ n q dst
+      stops f a e q is =
+          let g = runs.refused o dw n finalAnswer finalBytes i dst (at .run) more f in
+          subst (λ (q : Reply). Ran S sw dw src dst₀ n q dst) (sym is) (record { answer = e ∙ sym (g .0); counts = counts-of a (ap (convertedOf n) e ∙ refused-converted n i (outcomes S sw src i) f); bytes = g .1 })
 
+    -- b is put at its place
+    module _ (more : i < n) (r : Fit) (is-fit : r ≡ fitOf (outcomeOf S (fromLe (take sw (drop x src))))) (room : n * dw ≤ length dst₀) (b : ℕ) (f : Fared) (e : r ≡ Pattern b f) (dst′ : List ℕ) (stored : dst′ ≡ put dst y dw b) where
       within : i * dw + dw ≤ length dst
       within = subst (λ (z : ℕ). i * dw + dw ≤ z) (sym (at .same)) (le-trans (le-trans (le-of-eq (sym (suc-mul i dw))) (mul-le-mul-right dw more)) room)
 
-      stored-at : (b : ℕ) (f : Fared) → r ≡ Pattern b f → dst′ ≡ take (i * dw) dst ++ (toLe dw b ++ drop dw (drop (i * dw) dst))
-      stored-at b f e =
-          c .bytes ∙ ap (λ (z : Fit). storedAt z dst y dw) e ∙ ap (λ (z : ℕ). put dst z dw b) (at .target)
-          ∙ ap (λ (l : List ℕ). take (i * dw) dst ++ (toLe dw b ++ l)) (sym (drop-drop dw (i * dw) dst))
+      stored-at : dst′ ≡ take (i * dw) dst ++ (toLe dw b ++ drop dw (drop (i * dw) dst))
+      stored-at = stored ∙ ap (λ (z : ℕ). put dst z dw b) (at .target) ∙ ap (λ (l : List ℕ). take (i * dw) dst ++ (toLe dw b ++ l)) (sym (drop-drop dw (i * dw) dst))
 
-      same-after : (b : ℕ) (f : Fared) → r ≡ Pattern b f → length dst′ ≡ length dst
-      same-after b f e = ap length (stored-at b f e) ∙ simp (length-append, length-take, length-toLe, length-drop) (omega (arith, within))
+      same-after : length dst′ ≡ length dst
+      same-after = ap length stored-at ∙ simp (length-append, length-take, length-toLe, length-drop) (omega (arith, within))
 
-      pub goes-on : (b : ℕ) (f : Fared) → r ≡ Pattern b f → n < 2 ^ 64 → (k′ : ℕ) → k′ ≡ placeOf f → At (i + 1) (x + sw) (y + dw) dst′ t′ k′
-      goes-on b f e few k′ placed = record {
+      pub goes-on : n < 2 ^ 64 → (k′ : ℕ) → k′ ≡ placeOf f → At (i + 1) (x + sw) (y + dw) dst′ t′ k′
+      goes-on few k′ placed = record {
         order = omega arith;
         source = ap (λ (z : ℕ). z + sw) (at .source) ∙ next i sw;
         target = ap (λ (z : ℕ). z + dw) (at .target) ∙ next i dw;
-        same = same-after b f e ∙ at .same;
+        same = same-after ∙ at .same;
         countable = subst (λ (z : ℕ). CountableAt z t′) (sym placed) (tallies.countable-at f t′ six room-after);
         counts = ap (λ (z : ℕ). countsIn (oneMoreAt z t′)) placed ∙ tallies.one-more f t′ six ∙ ap (counted f) counted-below ∙ one-more o i b f is ∙ ap (countsBelow o) (sym (add-one i));
-        run = rw add-one (runs.kept o dw n finalAnswer finalBytes i dst (at .run) more b f dst′ is within (stored-at b f e));
+        run = rw add-one (runs.kept o dw n finalAnswer finalBytes i dst (at .run) more b f dst′ is within stored-at);
       }
         where
           next : (i w : ℕ) → i * w + w ≡ (i + 1) * w
           next i w = omega arith
 
           is : outcomes S sw src i ≡ Stored b f
-          is = stored-pattern outcome b f (sym fit-is ∙ e)
+          is = stored-pattern (outcomes S sw src i) b f (sym (fit-is more r is-fit) ∙ e)
 
           six : length t′ ≡ 6
           six = ap length all ∙ length-set t k _ ∙ at .countable .six
@@ -143,8 +139,11 @@ module _ (s : Settings) (keys targets src dst₀ : List ℕ) (n : ℕ) (ask : Ru
   pub target-end : y + s .dw ≤ length dst
   target-end = subst (λ (z : ℕ). z + s .dw ≤ length dst) (sym (at .target)) (subst (λ (z : ℕ). i * s .dw + s .dw ≤ z) (sym (at .same)) (fit (s .dw) (length dst₀) (ask .target)))
 
-  pub turn-asks : PlaceReady s keys targets src dst x y
-  turn-asks = record { map = ask .map; source = source-end; target = target-end }
+  pub turn-asks : PlaceReady s keys targets src x
+  turn-asks = record { map = ask .map; within = source-end }
+
+  pub store-asks : Place dst y (s .dw)
+  store-asks = target-place s (ask .map .ready) dst y target-end
 
   -- the answer to a refusal here is that of its outcome
   pub refused-answer : (r : Fit) → r ≡ fitOf (outcomes (settingsFor s keys targets) (s .sw) src i) → refusedAnswer s (fromLe (take (s .sw) (drop x src))) i r ≡ answerNext (outcomes (settingsFor s keys targets) (s .sw) src i) i A.Converted

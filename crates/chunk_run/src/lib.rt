@@ -1,10 +1,23 @@
 // The elements of a chunk in the order of their positions, up to the first refusal, and the counts of those that are converted.
+ghost use mathlib.Core.Path.{_≡_};
+ghost use Rattle.counts.specs.Counts.{countsIn};
 ghost use Rattle.chunk_element.specs.Settings.{settingsFor};
-ghost use Rattle.chunk_run.specs.Run.{RunReady, Ran};
+ghost use Rattle.chunk_run.specs.Run.{replyOf, RunReady, Ran};
 use chunk_element::Settings;
+use counts::Tally;
 use kinds::Answer;
 use kinds::Fit;
 use kinds::Reply;
+
+// The reply of an answer and of a tally.
+pub fn reply(answer: Answer, tally: Tally) -> Reply
+    ensures { λ r. ⌜ r ≡ replyOf answer (countsIn tally) ⌝ }
+{
+    Reply {
+        answer: answer,
+        counts: counts::counts_of(tally),
+    }
+}
 
 // The first n elements, by position, up to the first refusal. An element is counted when the next turn begins: at once, its place in the tally would be
 // known so late that the machine's loads behind it wait.
@@ -21,21 +34,16 @@ pub fn run(src: &[u8], dst: &mut [u8], keys: &[u8], targets: &[u8], s: Settings,
     let mut last = counts::NO_ELEMENT;
     while i < n {
         counts::count_at(&mut tally, last);
-        let r = chunk_element::convert_at(src, dst, keys, targets, s, input, output);
-        let Fit::Pattern { pattern: _, fared } = r else {
-            return Reply {
-                answer: chunk_element::refused_at(src, s, input, i, r),
-                counts: counts::counts_of(tally),
-            };
+        let r = chunk_element::fit_at(src, keys, targets, s, input);
+        let Fit::Pattern { pattern, fared } = r else {
+            return reply(chunk_element::refused_at(src, s, input, i, r), tally);
         };
+        bytes_le::write_le(dst, output, dw, pattern);
         last = counts::place(fared);
         input += sw;
         output += dw;
         i += 1;
     }
     counts::count_at(&mut tally, last);
-    Reply {
-        answer: Answer::Converted,
-        counts: counts::counts_of(tally),
-    }
+    reply(Answer::Converted, tally)
 }

@@ -17,7 +17,7 @@ use Rattle.kinds.specs.Row.{rowOf}
 use Rattle.kinds.specs.declared.KindRow.{KindRow}
 use Rattle.kinds.proofs.Listed.{row-width}
 use Rattle.cast_spec.specs.Chunk.{codesListed, wrapPermitted}
-use Rattle.chunk.proofs.Exits.{listed-codes}
+use Rattle.kinds.proofs.Listed.{listed-codes}
 use Rattle.listing.specs.declared.Layout.{Layout}
 use Rattle.report.specs.Report.{refusedLine}
 use Rattle.listing.specs.Listing.{entries, keysEnd, mapEnd, targets, elements, call, chunkOf, reportOf, refusalOf, listingOf}

@@ -1,0 +1,13 @@
+-- `chunk_run::reply` meets its contract: its counts are those of the tally.
+use mathlib.Core.Path.{ap}
+use borrow.Author.Needs.{needs}
+use Rattle.counts.specs.declared.Counts.{Counts}
+use Rattle.chunk_run.specs.Run.{replyOf}
+use Rattle.chunk_run.proofs.reply.Statement.{statement}
+use Rattle.chunk_run.proofs.reply.Tie as tie
+
+returns : tie.Need-returns
+returns c = ap (replyOf (c .before .args .answer)) (c .counts-of .ensures)
+
+pub reply-spec : {M : Type 1} → statement M
+reply-spec = tie.close (tie.spec (λ c κs. search needs) returns)
