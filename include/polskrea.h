@@ -43,7 +43,7 @@ extern "C" {
 #define POLSKREA_CLAMP 1
 #define POLSKREA_WRAP 2
 
-/* The numbers that polskrea_convert returns. */
+/* The numbers that polskrea_convert and polskrea_preview return. */
 #define POLSKREA_CONVERTED 0         /* every element is converted */
 #define POLSKREA_UNKNOWN_CODE 1      /* a kind, rounding or range code is not listed above */
 #define POLSKREA_BROKEN_MAP 2        /* map key or target bytes are not whole elements, or their counts differ */
@@ -113,6 +113,24 @@ uint8_t polskrea_convert(const uint8_t *src, size_t src_len,
                          const uint8_t *targets, size_t targets_len,
                          uint8_t from, uint8_t to, uint8_t rounding, uint8_t range,
                          polskrea_answer *answer);
+
+/*
+ * Previews polskrea_convert: returns its number and leaves its answer, every field, and in `changed` how many bytes of `dst` it would change.
+ * Nothing of `dst` is written.
+ *
+ * `changed` counts the places at which the bytes of `dst` differ from those that polskrea_convert would leave in it. Bytes, not numbers: 0.0
+ * over -0.0 changes one. It is 0 for 1 to 4 and 8; for 5, 6 and 7 it counts what would change before the refused element. It is always
+ * written, is never more than the bytes that would be written, and after the conversion a second preview has 0.
+ *
+ * The caller's side is that of polskrea_convert, but `dst` is for reading alone and may overlap `src`, `keys` and `targets`. `changed` is not
+ * NULL, is aligned for its type, is good for reading and writing, and overlaps nothing else that is passed.
+ */
+uint8_t polskrea_preview(const uint8_t *src, size_t src_len,
+                         const uint8_t *dst, size_t dst_len,
+                         const uint8_t *keys, size_t keys_len,
+                         const uint8_t *targets, size_t targets_len,
+                         uint8_t from, uint8_t to, uint8_t rounding, uint8_t range,
+                         polskrea_answer *answer, uint64_t *changed);
 
 /*
  * Typed calls: slices of numbers in place of bytes, and one slice of map entries. Same steps, same numbers, same fields as

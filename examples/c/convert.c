@@ -1,4 +1,5 @@
-/* Converts 2.5 and 300 from f64 to u8, first with no range choice and then clamped, and by the typed calls, and prints each answer. */
+/* Converts 2.5 and 300 from f64 to u8, first with no range choice and then clamped, and by the typed calls, and prints each answer; and previews what
+   7 and 300 from i16 to u8 would change. */
 #include <inttypes.h>
 #include <stdio.h>
 #include <string.h>
@@ -76,6 +77,35 @@ static void by_bytes(void)
     show("one place", number, &answer, dst, 1);
 }
 
+/* What a call would change of the bytes that stand there: previewed, converted, and previewed again. */
+static void before_overwriting(void)
+{
+    const int16_t src[2] = {7, 300};
+    polskrea_answer answer;
+    uint64_t changed;
+    uint8_t dst[2] = {9, 44};
+    uint8_t number;
+
+    number = polskrea_preview((const uint8_t *)src, sizeof src, dst, sizeof dst, NULL, 0, NULL, 0,
+                              POLSKREA_I16, POLSKREA_U8, POLSKREA_NEAREST_EVEN, POLSKREA_NONE, &answer, &changed);
+    show("preview, none", number, &answer, dst, sizeof dst);
+    printf("  would change %" PRIu64 " of %zu bytes\n", changed, sizeof dst);
+
+    number = polskrea_preview((const uint8_t *)src, sizeof src, dst, sizeof dst, NULL, 0, NULL, 0,
+                              POLSKREA_I16, POLSKREA_U8, POLSKREA_NEAREST_EVEN, POLSKREA_WRAP, &answer, &changed);
+    show("preview, wrap", number, &answer, dst, sizeof dst);
+    printf("  would change %" PRIu64 " of %zu bytes\n", changed, sizeof dst);
+
+    number = polskrea_convert((const uint8_t *)src, sizeof src, dst, sizeof dst, NULL, 0, NULL, 0,
+                              POLSKREA_I16, POLSKREA_U8, POLSKREA_NEAREST_EVEN, POLSKREA_WRAP, &answer);
+    show("wrap", number, &answer, dst, sizeof dst);
+
+    number = polskrea_preview((const uint8_t *)src, sizeof src, dst, sizeof dst, NULL, 0, NULL, 0,
+                              POLSKREA_I16, POLSKREA_U8, POLSKREA_NEAREST_EVEN, POLSKREA_WRAP, &answer, &changed);
+    show("preview, wrap again", number, &answer, dst, sizeof dst);
+    printf("  would change %" PRIu64 " of %zu bytes\n", changed, sizeof dst);
+}
+
 /* Nothing to convert, where every pointer may be null but the answer's, a number past f32, and wrap, which a float target bars. */
 static void at_the_ends(void)
 {
@@ -148,6 +178,7 @@ int main(void)
         return 1;
     }
     by_bytes();
+    before_overwriting();
     at_the_ends();
     by_numbers();
     each_class();

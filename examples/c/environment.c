@@ -1,5 +1,5 @@
 /* What the caller's floating-point environment changes: each group of conversions runs under each environment, and its answers, with their counts,
- * and destinations are compared with those under the default one. The proof takes the default environment: round to nearest, subnormals as they are, no traps.
+ * destinations and previews are compared with those under the default one. The proof takes the default environment: round to nearest, subnormals as they are, no traps.
  * Prints "same", "differs" or "trap", and the exceptions that were raised. */
 #define _GNU_SOURCE
 #include <fenv.h>
@@ -19,7 +19,7 @@
 /* Numbers, answers and destinations of a group's calls, one after the other. */
 typedef struct {
     size_t len;
-    uint8_t bytes[1 << 19];
+    uint8_t bytes[1 << 20];
 } record;
 
 static record usual, now;
@@ -64,14 +64,18 @@ static const uint64_t doubles[] = {
 static const uint32_t floats[] = {0x00000000, 0x80000000, 0x40200000, 0xbf000000, 0x43960000, 0x00000001, 0x807fffff, 0x00800000,
                                   0x7f7fffff, 0x7f800000, 0xff800000, 0x7fc00000, 0xffc01234};
 
-/* One call of the byte route. */
+/* One call of the byte route, and its preview. */
 static void by_bytes(const void *src, size_t len, uint8_t from, uint8_t to, uint8_t rounding, uint8_t range)
 {
     static const size_t width[10] = {1, 2, 4, 8, 1, 2, 4, 8, 4, 8};
     uint8_t dst[512];
     polskrea_answer answer;
+    uint64_t changed;
     size_t count = len / width[from], dst_len = count * width[to];
     memset(dst, 0xee, sizeof dst);
+    uint8_t told = polskrea_preview(src, len, dst, dst_len, NULL, 0, NULL, 0, from, to, rounding, range, &answer, &changed);
+    note_answer(told, &answer, count);
+    note(&changed, sizeof changed);
     uint8_t number = polskrea_convert(src, len, dst, dst_len, NULL, 0, NULL, 0, from, to, rounding, range, &answer);
     note_answer(number, &answer, count);
     note(dst, dst_len);

@@ -1,4 +1,4 @@
-//! A safe wrapper of `polskrea_convert`: chunks of numbers cast between ten number kinds.
+//! A safe wrapper of `polskrea_convert` and of its preview: chunks of numbers cast between ten number kinds.
 //!
 //! The library's side is proved (`crates/polskrea`); what this file has to keep is the caller's side of `include/polskrea.h`, and the
 //! borrow checker keeps it: the destination and the answer are `&mut`, so they overlap nothing, and a slice's pointer is good for its length.
@@ -209,7 +209,7 @@ impl From<Refused> for CastError {
 /// Why a call was refused.
 #[derive(Debug, Clone, Copy, PartialEq)]
 pub enum CastError {
-    /// 1: a code is not listed. Only [`convert_codes`] can answer it.
+    /// 1: a code is not listed. Only [`convert_codes`] and [`preview_codes`] can answer it.
     UnknownCode,
     /// 2: key or target bytes are not whole elements, or their counts differ.
     BrokenMap,
@@ -336,6 +336,63 @@ pub fn convert_codes(src: &[u8], dst: &mut [u8], map: Map<'_>, from: u8, to: u8,
         )
     };
     answered(number, &answer)
+}
+
+/// What [`preview`] tells of a call.
+#[derive(Debug, Clone, Copy, PartialEq)]
+pub struct Preview {
+    /// What [`convert`] would return.
+    pub answer: Result<Counts, Refused>,
+    /// How many bytes of the destination it would change: bytes, so that `0.0` over `-0.0` changes one. For the refusals 5 to 7 those before the
+    /// refused element; 0 for the others.
+    pub changed: u64,
+}
+
+/// What [`convert`] would return, and how many bytes of `dst` it would change. Nothing is written.
+///
+/// ```
+/// use polskrea::{convert, preview, Kind, Map, OutOfRangeMode, RoundingMode};
+///
+/// let (src, mut dst) = (1u16.to_le_bytes(), 0u16.to_le_bytes());
+/// let ask = |dst: &[u8]| preview(&src, dst, Map::default(), Kind::U16, Kind::U16, RoundingMode::NearestEven, OutOfRangeMode::None);
+/// let before = ask(&dst);
+/// assert_eq!((before.changed, dst), (1, [0, 0]));
+///
+/// let answer = convert(&src, &mut dst, Map::default(), Kind::U16, Kind::U16, RoundingMode::NearestEven, OutOfRangeMode::None);
+/// assert_eq!(answer, before.answer);
+/// assert_eq!(ask(&dst).changed, 0);
+/// ```
+pub fn preview(src: &[u8], dst: &[u8], map: Map<'_>, from: Kind, to: Kind, rounding: RoundingMode, range: OutOfRangeMode) -> Preview {
+    preview_codes(src, dst, map, from as u8, to as u8, rounding as u8, range as u8)
+}
+
+/// [`preview`] by codes, which may be any bytes.
+pub fn preview_codes(src: &[u8], dst: &[u8], map: Map<'_>, from: u8, to: u8, rounding: u8, range: u8) -> Preview {
+    let mut answer = sys::Answer::default();
+    let mut changed = 0;
+    // SAFETY: each pointer and length is a slice's, the two that are written are `&mut`, and nothing is kept.
+    let number = unsafe {
+        sys::polskrea_preview(
+            src.as_ptr(),
+            src.len(),
+            dst.as_ptr(),
+            dst.len(),
+            map.keys.as_ptr(),
+            map.keys.len(),
+            map.targets.as_ptr(),
+            map.targets.len(),
+            from,
+            to,
+            rounding,
+            range,
+            &mut answer,
+            &mut changed,
+        )
+    };
+    Preview {
+        answer: answered(number, &answer),
+        changed,
+    }
 }
 
 /// What a call's number and fields say.

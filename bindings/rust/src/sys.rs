@@ -56,6 +56,24 @@ extern "C" {
         answer: *mut Answer,
     ) -> u8;
 
+    /// The preview of the chunk call: its number and its answer, and how many bytes of the destination it would change.
+    pub fn polskrea_preview(
+        src: *const u8,
+        src_len: usize,
+        dst: *const u8,
+        dst_len: usize,
+        keys: *const u8,
+        keys_len: usize,
+        targets: *const u8,
+        targets_len: usize,
+        from: u8,
+        to: u8,
+        rounding: u8,
+        range: u8,
+        answer: *mut Answer,
+        changed: *mut u64,
+    ) -> u8;
+
     /// The version of the interface.
     pub fn polskrea_version() -> u32;
 }

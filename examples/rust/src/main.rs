@@ -1,5 +1,5 @@
-//! Converts 2.5 and 300 from f64 to u8: refused, clamped, by a map, and by the typed call.
-use polskrea::{convert, convert_f64_to_u8, Counts, Entry, Kind, Map, OutOfRangeMode, Refused, RoundingMode};
+//! Converts 2.5 and 300 from f64 to u8: refused, clamped, by a map, and by the typed call; and previews 7 and 300 from i16 to u8.
+use polskrea::{convert, convert_f64_to_u8, preview, Counts, Entry, Kind, Map, OutOfRangeMode, Preview, Refused, RoundingMode};
 
 /// Prints what came of a call and the destination, and how the converted elements fared.
 fn show(title: &str, answer: Result<Counts, Refused>, dst: &[u8]) {
@@ -30,6 +30,24 @@ fn by_bytes() {
     show("map", answer, &dst);
 }
 
+/// What a call would change of the bytes that stand there, before and after it is made.
+fn before_overwriting() {
+    let src: Vec<u8> = [7i16, 300].iter().flat_map(|x| x.to_le_bytes()).collect();
+    let mut dst = [9u8, 44];
+    let ask = |title: &str, dst: &[u8], range| {
+        let Preview { answer, changed } = preview(&src, dst, Map::default(), Kind::I16, Kind::U8, RoundingMode::NearestEven, range);
+        show(title, answer, dst);
+        println!("  would change {changed} of {} bytes", dst.len());
+    };
+    ask("preview none", &dst, OutOfRangeMode::None);
+    ask("preview wrap", &dst, OutOfRangeMode::Wrap);
+
+    let (from, to, rounding) = (Kind::I16, Kind::U8, RoundingMode::NearestEven);
+    let answer = convert(&src, &mut dst, Map::default(), from, to, rounding, OutOfRangeMode::Wrap);
+    show("wrap", answer, &dst);
+    ask("preview wrap again", &dst, OutOfRangeMode::Wrap);
+}
+
 /// The typed call, with no map and with a typed one.
 fn by_numbers() {
     let mut dst = [0u8; 2];
@@ -43,5 +61,6 @@ fn by_numbers() {
 
 fn main() {
     by_bytes();
+    before_overwriting();
     by_numbers();
 }

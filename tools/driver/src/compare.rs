@@ -1,8 +1,8 @@
 //! One chunk on both sides, what is counted, and the differences.
 use crate::account::{self, Class};
 use crate::{
-    barred, first_difference, has_typed, is_nan, lengths_differ, names_position, ours, ours_typed, pattern, put, reference, slices, width,
-    Answer, Reference, Settings,
+    barred, first_difference, has_typed, is_nan, lengths_differ, names_position, ours, ours_preview, ours_typed, pattern, put, reference,
+    slices, width, Answer, Reference, Settings,
 };
 use polskrea::Counts;
 use std::collections::BTreeMap;
@@ -24,6 +24,8 @@ pub struct Tally {
     pub elements: u64,
     /// of the chunk call
     pub calls: u64,
+    /// of its preview, one beside each
+    pub previews: u64,
     /// of the typed calls
     pub typed: u64,
     /// of the original's slice functions
@@ -37,6 +39,7 @@ impl Tally {
     pub fn add(&mut self, other: Tally) {
         self.elements += other.elements;
         self.calls += other.calls;
+        self.previews += other.previews;
         self.typed += other.typed;
         self.slices += other.slices;
         self.refusals += other.refusals;
@@ -49,8 +52,8 @@ impl Tally {
     /// The counts in words.
     pub fn text(&self) -> String {
         format!(
-            "{} elements, {} calls, {} typed calls, {} slice calls, {} refusals, {} differences",
-            self.elements, self.calls, self.typed, self.slices, self.refusals, self.differences
+            "{} elements, {} calls, {} previews, {} typed calls, {} slice calls, {} refusals, {} differences",
+            self.elements, self.calls, self.previews, self.typed, self.slices, self.refusals, self.differences
         )
     }
 
@@ -141,6 +144,8 @@ pub struct Check {
     dst: Vec<u8>,
     /// what a destination holds before a call
     marks: Vec<u8>,
+    /// what a destination holds before the chunk call
+    before: Vec<u8>,
     /// the kind whose elements the marks are
     marked: Option<u8>,
     /// accepted elements, what ours made of them, and what the slice function does
@@ -154,6 +159,12 @@ fn mark(kind: u8) -> u64 {
         9 => 0x7ff4_0000_0000_0001,
         _ => 0xa5a5_a5a5_a5a5_a5a5,
     }
+}
+
+/// At how many places two rows of bytes differ. A run of 255 is counted in a byte, for speed.
+fn differing(a: &[u8], b: &[u8]) -> u64 {
+    let run = |(a, b): (&[u8], &[u8])| a.iter().zip(b).map(|(x, y)| u8::from(x != y)).sum::<u8>();
+    a.chunks(255).zip(b.chunks(255)).map(|p| u64::from(run(p))).sum()
 }
 
 /// The elements that are not refused, one after the other.
@@ -180,13 +191,29 @@ fn miscounted(c: &Chunk, route: Route, mut places: Range<usize>) -> usize {
 }
 
 impl Check {
-    /// One call of the library, counted.
+    /// One call of the library, counted. The chunk call is previewed first.
     fn run(&mut self, route: Route, s: Settings, src: &[u8], dst: &mut [u8], keys: &[u8], targets: &[u8]) -> (Answer, Counts) {
-        match route {
-            Route::Bytes => self.tally.calls += 1,
-            Route::Typed => self.tally.typed += 1,
+        if route == Route::Typed {
+            self.tally.typed += 1;
+            return route.call(s, src, dst, keys, targets);
         }
-        route.call(s, src, dst, keys, targets)
+        self.before.clear();
+        self.before.extend_from_slice(dst);
+        let told = ours_preview(s, src, dst, keys, targets);
+        let (answer, counts) = route.call(s, src, dst, keys, targets);
+        let due = (answer, counts, differing(&self.before, dst));
+        self.tally.calls += 1;
+        self.tally.previews += 1;
+        if told != due {
+            let element = if s.from < 10 {
+                src.get(..width(s.from)).map_or(0, pattern)
+            } else {
+                0
+            };
+            let text = format!("preview {told:?} where the call answers and changes {due:?}");
+            self.tally.differs(s, element, text);
+        }
+        (answer, counts)
     }
 
     /// Fills the destination with so many marks of a kind.

@@ -1,4 +1,4 @@
-//! Both sides of the comparison. Ours: `ours`, the chunk call, and `ours_typed`, the typed calls. The original's: `reference`, its element
+//! Both sides of the comparison. Ours: `ours`, the chunk call, `ours_preview`, its preview, and `ours_typed`, the typed calls. The original's: `reference`, its element
 //! functions applied in order, and `slices`, its slice functions. It has no counts: `account` has them.
 use original::{
     convert_float_to_float, convert_float_to_int, convert_int_to_float, convert_int_to_int, convert_slice_float_to_float,
@@ -187,6 +187,34 @@ pub fn ours(s: Settings, src: &[u8], dst: &mut [u8], keys: &[u8], targets: &[u8]
         )
     };
     answered(number, &fields)
+}
+
+/// The proved library's preview: the answer, the counts, and how many bytes of the destination would change.
+#[inline]
+pub fn ours_preview(s: Settings, src: &[u8], dst: &[u8], keys: &[u8], targets: &[u8]) -> (Answer, Counts, u64) {
+    let mut fields = UNWRITTEN;
+    let mut changed = u64::MAX;
+    // SAFETY: pointers and lengths are slices', and what is written is `&mut`.
+    let number = unsafe {
+        sys::polskrea_preview(
+            address(src),
+            src.len(),
+            address(dst),
+            dst.len(),
+            address(keys),
+            keys.len(),
+            address(targets),
+            targets.len(),
+            s.from,
+            s.to,
+            s.rounding,
+            s.range,
+            &mut fields,
+            &mut changed,
+        )
+    };
+    let (answer, counts) = answered(number, &fields);
+    (answer, counts, changed)
 }
 
 /// An element type and its bytes.

@@ -1,7 +1,9 @@
 //! Times the original's scalar route, its slice functions over typed slices, and ours, the byte route of the proved library and its typed
-//! entries, in one run. Prints ns per element, the best of several repeats, and the ratio.
+//! entries, in one run; and the preview beside the conversion. Prints ns per element, the best of several repeats, and the ratio.
 use driver::samples::Random;
-use driver::{entries, ours, range_of, rounding_of, typed, typed_entries, width, Element, Settings, Typed, KINDS, RANGES, RULES};
+use driver::{
+    entries, ours, ours_preview, range_of, rounding_of, typed, typed_entries, width, Element, Settings, Typed, KINDS, RANGES, RULES,
+};
 use original::{
     convert_slice_float_to_float, convert_slice_float_to_int, convert_slice_int_to_float, convert_slice_int_to_int, CastFloat, CastInt,
     CastInto, FloatToFloatConfig, FloatToIntConfig, IntToFloatConfig, IntToIntConfig,
@@ -87,6 +89,18 @@ fn proved(row: &Row, repeats: usize) -> f64 {
     best(repeats, || {
         let (a, _) = ours(black_box(row.s), black_box(&row.src), black_box(&mut dst), &row.keys, &row.targets);
         assert_eq!(a.number, 0, "nothing is refused");
+    })
+}
+
+/// The preview of the row over what its conversion leaves, or over bytes of which each differs from that.
+fn foreseen(row: &Row, repeats: usize, other: bool) -> f64 {
+    let mut dst = vec![0u8; row.src.len() / width(row.s.from) * width(row.s.to)];
+    ours(row.s, &row.src, &mut dst, &row.keys, &row.targets);
+    let due = if other { dst.len() as u64 } else { 0 };
+    dst.iter_mut().for_each(|b| *b ^= u8::from(other));
+    best(repeats, || {
+        let (a, _, changed) = ours_preview(black_box(row.s), black_box(&row.src), black_box(&dst), &row.keys, &row.targets);
+        assert_eq!((a.number, changed), (0, due), "nothing is refused");
     })
 }
 
@@ -207,6 +221,42 @@ fn rows(n: usize) -> Vec<(Row, Original)> {
     out
 }
 
+/// The first two cells of a line: the conversion and its data.
+fn title(row: &Row) -> String {
+    let s = row.s;
+    let [from, to] = [s.from, s.to].map(|kind| KINDS[kind as usize]);
+    format!(
+        "| {from} to {to}, {}, {} | {} |",
+        RANGES[s.range as usize], RULES[s.rounding as usize], row.note
+    )
+}
+
+/// The preview beside the conversion of the same chunk.
+fn previews(repeats: usize) {
+    println!();
+    println!(
+        "the preview of the same chunks, over a destination that holds what the conversion leaves, and over one that holds no such byte"
+    );
+    println!("| conversion | data | convert 4,096 | preview, same | preview, other | convert 1,000,000 | preview, same | preview, other |");
+    println!("|---|---|---|---|---|---|---|---|");
+    for ((small, _), (large, _)) in rows(4096).into_iter().zip(rows(1_000_000)) {
+        print!("{}", title(&small));
+        for row in [&small, &large] {
+            let n = row.src.len() as f64 / width(row.s.from) as f64;
+            let mut times = [f64::MAX; 3];
+            for _ in 0..3 {
+                let turn = repeats.div_ceil(3);
+                let now = [proved(row, turn), foreseen(row, turn, false), foreseen(row, turn, true)];
+                times = [0, 1, 2].map(|i| times[i].min(now[i]));
+            }
+            for t in times {
+                print!(" {:.2} |", t / n * 1e9);
+            }
+        }
+        println!();
+    }
+}
+
 fn main() {
     let repeats: usize = std::env::args().nth(1).map_or(15, |a| a.parse().expect("a number of repeats"));
     println!("ns per element, best of {repeats} repeats; ratio is ours to the original's; typed is the typed call, where there is one");
@@ -214,10 +264,7 @@ fn main() {
     println!("|---|---|---|---|---|---|---|---|---|---|");
     for ((small, original), (large, _)) in rows(4096).into_iter().zip(rows(1_000_000)) {
         let s = small.s;
-        print!(
-            "| {} to {}, {}, {} | {} |",
-            KINDS[s.from as usize], KINDS[s.to as usize], RANGES[s.range as usize], RULES[s.rounding as usize], small.note
-        );
+        print!("{}", title(&small));
         for row in [&small, &large] {
             let n = row.src.len() as f64 / width(s.from) as f64;
             // both in turn, so that what else the machine does falls on both
@@ -234,4 +281,5 @@ fn main() {
         }
         println!();
     }
+    previews(repeats);
 }
