@@ -122,6 +122,8 @@ uint8_t polskrea_convert(const uint8_t *src, size_t src_len,
  * over -0.0 changes one. It is 0 for 1 to 4 and 8; for 5, 6 and 7 it counts what would change before the refused element. It is always
  * written, is never more than the bytes that would be written, and after the conversion a second preview has 0.
  *
+ * It stands in libpolskrea_preview.a, which `rt staticlib polskrea_preview` makes.
+ *
  * The caller's side is that of polskrea_convert, but `dst` is for reading alone and may overlap `src`, `keys` and `targets`. `changed` is not
  * NULL, is aligned for its type, is good for reading and writing, and overlaps nothing else that is passed.
  */

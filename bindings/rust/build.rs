@@ -1,4 +1,4 @@
-//! Tells the linker where libpolskrea.a and libpolskrea_typed.a stand: in POLSKREA_LIB_DIR, or where `rt staticlib` puts them.
+//! Tells the linker where libpolskrea.a, libpolskrea_preview.a and libpolskrea_typed.a stand: in POLSKREA_LIB_DIR, or where `rt staticlib` puts them.
 use std::env;
 use std::path::PathBuf;
 
@@ -8,7 +8,7 @@ fn main() {
         Some(folder) => PathBuf::from(folder),
         None => PathBuf::from(env::var_os("CARGO_MANIFEST_DIR").unwrap()).join("../../target/staticlib"),
     };
-    for library in ["polskrea", "polskrea_typed"] {
+    for library in ["polskrea", "polskrea_preview", "polskrea_typed"] {
         println!("cargo:rerun-if-changed={}", folder.join(format!("lib{library}.a")).display());
         println!("cargo:rustc-link-lib=static={library}");
     }

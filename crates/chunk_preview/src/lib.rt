@@ -19,8 +19,6 @@ pub fn preview(
     requires { ⌜ RunReady s (now keys) (now targets) (now src) (now dst) n ⌝ }
     ensures { λ r. ⌜ Foreseen (settingsFor s (now (keys .entry)) (now (targets .entry))) (s .sw) (s .dw) (now (src .entry)) (now (dst .entry)) n r ⌝ }
 {
-    let sw = s.sw;
-    let dw = s.dw;
     let mut i = 0;
     let mut input = 0;
     let mut output = 0;
@@ -36,10 +34,10 @@ pub fn preview(
                 changed: changed,
             };
         };
-        changed += hamming::distance_le(dst, output, dw, pattern);
+        changed += hamming::distance_le(dst, output, s.dw, pattern);
         last = counts::place(fared);
-        input += sw;
-        output += dw;
+        input += s.sw;
+        output += s.dw;
         i += 1;
     }
     counts::count_at(&mut tally, last);

@@ -1,7 +1,7 @@
-// The library's calls for C and for Rust: the chunk call over bytes, its preview, and the version.
+// The library's calls for C and for Rust: the chunk call over bytes, and the version.
 ghost use mathlib.Core.Path.{_≡_};
 ghost use Rattle.cast_spec.specs.Chunk.{inputs};
-ghost use Rattle.answer_fields.specs.Returned.{Returned, ReturnedPreview};
+ghost use Rattle.answer_fields.specs.Returned.{Returned};
 ghost use Rattle.polskrea.specs.Version.{version};
 use answer_fields::Fields;
 
@@ -22,29 +22,6 @@ pub extern "C" fn polskrea_convert(
 {
     let r = chunk::convert(src, dst, keys, targets, from, to, rounding, range);
     answer_fields::answered(r, answer)
-}
-
-// What `polskrea_convert` would return and leave in `answer`, and in `changed` how many bytes of the destination it would change. Nothing of
-// the destination is written.
-#[no_mangle]
-pub extern "C" fn polskrea_preview(
-    src: &[u8],
-    dst: &[u8],
-    keys: &[u8],
-    targets: &[u8],
-    from: u8,
-    to: u8,
-    rounding: u8,
-    range: u8,
-    answer: &mut Fields,
-    changed: &mut u64,
-) -> u8
-    ensures { λ r. ⌜ ReturnedPreview (inputs (now (src .entry)) (now (dst .entry)) (now (keys .entry)) (now (targets .entry)) from to rounding range) r (now (answer .exit)) (now (changed .exit)) ⌝ }
-{
-    let p = chunk::preview(src, dst, keys, targets, from, to, rounding, range);
-    let reply = p.reply;
-    *changed = p.changed as u64;
-    answer_fields::answered(reply, answer)
 }
 
 // The version of the calls above.

@@ -17,10 +17,10 @@ use Rattle.chunk_preview.proofs.preview.Statement.{statement}
 use Rattle.chunk_preview.proofs.preview.Tie as tie
 
 abbrev Inv-loop : tie.InvT-loop
-Inv-loop src dst keys targets s n sw dw i₀ input₀ output₀ changed₀ tally₀ last₀ i input output changed tally last = Ahead (settingsFor s keys targets) (s .sw) (s .dw) src dst n i input output changed tally last
+Inv-loop src dst keys targets s n i₀ input₀ output₀ changed₀ tally₀ last₀ i input output changed tally last = Ahead (settingsFor s keys targets) (s .sw) (s .dw) src dst n i input output changed tally last
 
 abbrev μ-loop : tie.MeasureT-loop
-μ-loop src dst keys targets s n sw dw i₀ input₀ output₀ changed₀ tally₀ last₀ i input output changed tally last = n - i
+μ-loop src dst keys targets s n i₀ input₀ output₀ changed₀ tally₀ last₀ i input output changed tally last = n - i
 
 -- ---- a turn, its loop's head and the call's start
 abbrev Turn : Type 0
@@ -105,20 +105,24 @@ add-changed c =
     omega (arith, c .distance-le .ensures, w, done u, in-target u, start u .good .1 .0)
 
 add-input : tie.Need-add-input Inv-loop μ-loop
-add-input c = record { fits = omega (arith, in-source (c .before .before .before .before .before)) }
+add-input c = record { fits = omega (arith, in-source (c .before .before .before .before .before .before)) }
 
 add-output : tie.Need-add-output Inv-loop μ-loop
-add-output c = let u = c .before .before .before .before .before in record { fits = omega (arith, in-target u, start u .good .1 .0) }
+add-output c = let u = c .before .before .before .before .before .before .before in record { fits = omega (arith, in-target u, start u .good .1 .0) }
+
+add-i : tie.Need-add-i Inv-loop μ-loop
+add-i c = let u = c .before .before .before .before .before .before .before in omega (arith, u .before .before .before .loop-test .taken, start u .fits .n)
 
 loop-again : tie.Need-loop-again Inv-loop μ-loop
 loop-again c =
-    let d = c .before in
+    let p = c .before .before in
+    let d = p .before in
     let g = d .before .before .r .given in
     let u = d .before .before .before .before in
     let t = start u in
     let a = t .args in
     let l = head u .loop in
-    goes-on (settingsFor (a .s) (now (a .keys)) (now (a .targets))) (a .s .sw) (a .s .dw) (now (a .src)) (now (a .dst)) (a .n) (l .i) (l .input) (l .output) (l .changed) (l .tally) (l .last) (l .inv) (u .before .count-at .last .0) (u .before .count-at .ensures) (u .before .before .before .loop-test .taken) (u .fit-at .result) (u .fit-at .ensures) (t .pre .target) (g .0 .0) (g .0 .1 .0) (g .1) (omega arith) (in-target u) (d .distance-le .result) (d .distance-le .ensures) (c .place .result) (c .place .ensures)
+    goes-on (settingsFor (a .s) (now (a .keys)) (now (a .targets))) (a .s .sw) (a .s .dw) (now (a .src)) (now (a .dst)) (a .n) (l .i) (l .input) (l .output) (l .changed) (l .tally) (l .last) (l .inv) (u .before .count-at .last .0) (u .before .count-at .ensures) (u .before .before .before .loop-test .taken) (u .fit-at .result) (u .fit-at .ensures) (t .pre .target) (g .0 .0) (g .0 .1 .0) (g .1) (omega arith) (in-target u) (d .distance-le .result) (d .distance-le .ensures) (p .place .result) (p .place .ensures)
 
 count-at-requires-2 : tie.Need-count-at-requires-2 Inv-loop μ-loop
 count-at-requires-2 c κs = c .before .before .loop .inv .at .countable
@@ -131,4 +135,4 @@ returns-2 c =
     ends (settingsFor (a .s) (now (a .keys)) (now (a .targets))) (a .s .sw) (a .s .dw) (now (a .src)) (now (a .dst)) (a .n) (l .i) (l .input) (l .output) (l .changed) (l .tally) (l .last) (l .inv) (c .before .count-at2 .last .0) (c .before .count-at2 .ensures) (c .before .before .before .loop-test .left) (c .reply2 .result) (c .reply2 .ensures)
 
 pub preview-spec : {M : Type 1} → statement M
-preview-spec = tie.close (tie.spec Inv-loop μ-loop (λ c κs. search needs) loop-holds count-at-requires fit-at-requires (λ c. search needs) refused-at-requires (λ c κs. search needs) returns distance-le-requires add-changed (λ c κs. search needs) add-input add-output (λ c. omega arith) (λ c. omega arith) loop-again count-at-requires-2 (λ c κs. search needs) returns-2)
+preview-spec = tie.close (tie.spec Inv-loop μ-loop (λ c κs. search needs) loop-holds count-at-requires fit-at-requires (λ c. search needs) refused-at-requires (λ c κs. search needs) returns distance-le-requires add-changed (λ c κs. search needs) add-input add-output add-i (λ c. omega arith) loop-again count-at-requires-2 (λ c κs. search needs) returns-2)

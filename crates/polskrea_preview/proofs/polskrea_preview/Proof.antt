@@ -1,7 +1,7 @@
--- `polskrea::polskrea_preview` meets its contract: its number, its fields and its figure are those of the preview, which is the definition's.
+-- `polskrea_preview::polskrea_preview` meets its contract: its number, its fields and its figure are those of the preview, which is the definition's.
 use borrow.Author.Needs.{needs}
-use Rattle.polskrea.proofs.polskrea_preview.Tie as tie
-use Rattle.polskrea.proofs.polskrea_preview.Statement.{statement}
+use Rattle.polskrea_preview.proofs.polskrea_preview.Tie as tie
+use Rattle.polskrea_preview.proofs.polskrea_preview.Statement.{statement}
 use Rattle.answer_fields.proofs.Exported.{exported-preview}
 
 returns : tie.Need-returns
