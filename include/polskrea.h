@@ -120,12 +120,14 @@ uint8_t polskrea_convert(const uint8_t *src, size_t src_len,
  *
  * `changed` counts the places at which the bytes of `dst` differ from those that polskrea_convert would leave in it. Bytes, not numbers: 0.0
  * over -0.0 changes one. It is 0 for 1 to 4 and 8; for 5, 6 and 7 it counts what would change before the refused element. It is always
- * written, is never more than the bytes that would be written, and after the conversion a second preview has 0.
+ * written. It is never more than the bytes that would be written, and 0 where polskrea_convert has been called with the same arguments and
+ * the elements, the map and `dst` are as that call left them: crates/cast_spec/proofs/Previews.antt proves these two.
  *
- * It stands in libpolskrea_preview.a, which `rt staticlib polskrea_preview` makes.
+ * It stands in libpolskrea_preview.a, which `rt staticlib polskrea_preview` makes; what is said above of libpolskrea.a holds of it too.
  *
- * The caller's side is that of polskrea_convert, but `dst` is for reading alone and may overlap `src`, `keys` and `targets`. `changed` is not
- * NULL, is aligned for its type, is good for reading and writing, and overlaps nothing else that is passed.
+ * The caller's side is that of polskrea_convert, where `dst` is for reading alone and may overlap `src`, `keys` and `targets`, and where
+ * `changed` is a sixth pointer: not NULL, aligned for its type, good for reading and writing. Only `answer` and `changed` must overlap nothing
+ * else that is passed. What is said of the floating-point environment is tested of the preview too.
  */
 uint8_t polskrea_preview(const uint8_t *src, size_t src_len,
                          const uint8_t *dst, size_t dst_len,

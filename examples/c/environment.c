@@ -1,6 +1,6 @@
-/* What the caller's floating-point environment changes: each group of conversions runs under each environment, and its answers, with their counts,
- * destinations and previews are compared with those under the default one. The proof takes the default environment: round to nearest, subnormals as they are, no traps.
- * Prints "same", "differs" or "trap", and the exceptions that were raised. */
+/* What the caller's floating-point environment changes: each group of conversions runs under each environment, and its answers, with their
+ * counts, destinations and previews are compared with those under the default one. The proof takes the default environment: round to nearest,
+ * subnormals as they are, no traps. Prints "same", "differs" or "trap", and the exceptions that were raised. */
 #define _GNU_SOURCE
 #include <fenv.h>
 #include <setjmp.h>
@@ -16,7 +16,7 @@
 #define DENORMALS_ARE_ZERO 0x0040u
 #define DENORMAL_MASK 0x0100u
 
-/* Numbers, answers and destinations of a group's calls, one after the other. */
+/* Numbers, answers, destinations and figures of a group's calls, one after the other. */
 typedef struct {
     size_t len;
     uint8_t bytes[1 << 20];

@@ -1,7 +1,8 @@
 //! A safe wrapper of `polskrea_convert` and of its preview: chunks of numbers cast between ten number kinds.
 //!
-//! The library's side is proved (`crates/polskrea`); what this file has to keep is the caller's side of `include/polskrea.h`, and the
-//! borrow checker keeps it: the destination and the answer are `&mut`, so they overlap nothing, and a slice's pointer is good for its length.
+//! The library's side is proved (`crates/polskrea`, `crates/polskrea_preview`, `crates/polskrea_typed`); what this file has to keep is the
+//! caller's side of `include/polskrea.h`, and the borrow checker keeps it: what a call writes is `&mut`, so it overlaps nothing, and a slice's
+//! pointer is good for its length.
 //! The floating-point environment is left to its user: Rust's own is the default one.
 //!
 //! Each call returns how the converted elements fared, and a refused one has that beside the error:
@@ -341,7 +342,7 @@ pub fn convert_codes(src: &[u8], dst: &mut [u8], map: Map<'_>, from: u8, to: u8,
 /// What [`preview`] tells of a call.
 #[derive(Debug, Clone, Copy, PartialEq)]
 pub struct Preview {
-    /// What [`convert`] would return.
+    /// What [`convert`] would return. Where it refuses a NaN it holds that NaN, and is then unequal to itself.
     pub answer: Result<Counts, Refused>,
     /// How many bytes of the destination it would change: bytes, so that `0.0` over `-0.0` changes one. For the refusals 5 to 7 those before the
     /// refused element; 0 for the others.

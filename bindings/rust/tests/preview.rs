@@ -1,6 +1,6 @@
-//! The preview against the conversion of a copy, in every setting: the same answer in every field, nothing written, and the bytes that differ.
-use polskrea::{convert_codes, preview, preview_codes, sys, Kind, Map, OutOfRangeMode, RoundingMode};
-use std::ptr::null;
+//! The preview against the conversion of a copy, in every setting: the same number and the same bits in every field, all of them written, nothing else
+//! written, and as many bytes as then differ.
+use polskrea::{preview, preview_codes, sys, Kind, Map, OutOfRangeMode, RoundingMode};
 
 const KINDS: [Kind; 10] = [
     Kind::I8,
@@ -15,7 +15,22 @@ const KINDS: [Kind; 10] = [
     Kind::F64,
 ];
 
-/// Bytes that look alike in no two places.
+/// What stands in the fields before a call, so that one that is not written shows.
+const UNWRITTEN: sys::Answer = sys::Answer {
+    src_len: u64::MAX,
+    dst_len: u64::MAX,
+    position: u64::MAX,
+    value: u64::MAX,
+    lowest: u64::MAX,
+    highest: u64::MAX,
+    mapped: u64::MAX,
+    exact: u64::MAX,
+    rounded: u64::MAX,
+    clamped: u64::MAX,
+    wrapped: u64::MAX,
+};
+
+/// Pseudo-random bytes.
 fn noise(len: usize, mut seed: u64) -> Vec<u8> {
     (0..len)
         .map(|_| {
@@ -25,16 +40,58 @@ fn noise(len: usize, mut seed: u64) -> Vec<u8> {
         .collect()
 }
 
+/// The number and every field of the conversion of `dst`, which is written.
+fn converted(src: &[u8], dst: &mut [u8], map: Map<'_>, [from, to, rounding, range]: [u8; 4]) -> (u8, sys::Answer) {
+    let mut answer = UNWRITTEN;
+    let (s, k, t) = (src.as_ptr(), map.keys.as_ptr(), map.targets.as_ptr());
+    let (d, d_len, k_len, t_len) = (dst.as_mut_ptr(), dst.len(), map.keys.len(), map.targets.len());
+    // SAFETY: each pointer and length is a slice's, and what is written is `&mut`.
+    let number = unsafe { sys::polskrea_convert(s, src.len(), d, d_len, k, k_len, t, t_len, from, to, rounding, range, &mut answer) };
+    (number, answer)
+}
+
+/// The number and every field of the preview, and its figure.
+fn previewed(src: &[u8], dst: &[u8], map: Map<'_>, [from, to, rounding, range]: [u8; 4]) -> ((u8, sys::Answer), u64) {
+    let (mut answer, mut changed) = (UNWRITTEN, 1);
+    let (s, d, k, t) = (src.as_ptr(), dst.as_ptr(), map.keys.as_ptr(), map.targets.as_ptr());
+    let (k_len, t_len, at) = (map.keys.len(), map.targets.len(), &mut changed);
+    // SAFETY: each pointer and length is a slice's, and what is written is `&mut`.
+    let number = unsafe {
+        sys::polskrea_preview(
+            s,
+            src.len(),
+            d,
+            dst.len(),
+            k,
+            k_len,
+            t,
+            t_len,
+            from,
+            to,
+            rounding,
+            range,
+            &mut answer,
+            at,
+        )
+    };
+    ((number, answer), changed)
+}
+
 /// Holds the preview to the conversion of a copy, and a second one to what that leaves. Returns what would change.
 fn held(src: &[u8], dst: &[u8], map: Map<'_>, codes: [u8; 4]) -> u64 {
-    let [from, to, rounding, range] = codes;
-    let told = preview_codes(src, dst, map, from, to, rounding, range);
     let mut copy = dst.to_vec();
-    let answer = convert_codes(src, &mut copy, map, from, to, rounding, range);
-    assert_eq!(format!("{:?}", told.answer), format!("{answer:?}"), "{codes:?}");
+    let (told, changed) = previewed(src, dst, map, codes);
+    assert_eq!(dst, copy, "{codes:?}");
+    assert_eq!(told, converted(src, &mut copy, map, codes), "{codes:?}");
     let differ = dst.iter().zip(&copy).filter(|(old, new)| old != new).count() as u64;
-    assert_eq!(told.changed, differ, "{codes:?}");
-    assert_eq!(preview_codes(src, &copy, map, from, to, rounding, range).changed, 0, "{codes:?}");
+    assert_eq!(changed, differ, "{codes:?}");
+    assert_eq!(previewed(src, &copy, map, codes), (told, 0), "{codes:?}");
+    let [from, to, rounding, range] = codes;
+    let wrapped = preview_codes(src, dst, map, from, to, rounding, range);
+    assert_eq!(
+        (wrapped.changed, wrapped.answer.map_or_else(|r| r.error.number(), |_| 0)),
+        (changed, told.0)
+    );
     differ
 }
 
@@ -84,29 +141,4 @@ fn bytes_and_not_numbers_or_elements() {
     let refused = ask(&[7, 0, 44, 1], &[0, 0], Kind::I16, Kind::U8);
     assert_eq!(refused.answer.unwrap_err().error.number(), 6);
     assert_eq!(refused.changed, 1);
-}
-
-#[test]
-fn every_field_is_written() {
-    for (codes, number) in [([9, 4, 0, 0], 0), ([10, 4, 0, 0], 1), ([9, 8, 0, 2], 8)] {
-        let [from, to, rounding, range] = codes;
-        let mut answer = sys::Answer {
-            src_len: 1,
-            dst_len: 1,
-            position: 1,
-            value: 1,
-            lowest: 1,
-            highest: 1,
-            mapped: 1,
-            exact: 1,
-            rounded: 1,
-            clamped: 1,
-            wrapped: 1,
-        };
-        let mut changed = 1;
-        let at = (&mut answer, &mut changed);
-        // SAFETY: the four lengths are 0, and the answer and the figure are this function's own.
-        let got = unsafe { sys::polskrea_preview(null(), 0, null(), 0, null(), 0, null(), 0, from, to, rounding, range, at.0, at.1) };
-        assert_eq!((got, answer, changed), (number, sys::Answer::default(), 0));
-    }
 }

@@ -3,7 +3,6 @@ use mathlib.Core.Path.{_≡_}
 use mathlib.Core.List.{List, [], _∷_, _++_}
 use Prim.Native.Nat.{ℕ}
 use lib.ListN.{length}
-use Rattle.hamming.specs.Distance.{distance}
 use Rattle.kinds.specs.Answer.{numberOf, valuesOf}
 use Rattle.kinds.specs.declared.Answer.{Answer}
 use Rattle.counts.specs.declared.Counts.{Counts}
@@ -11,7 +10,7 @@ use Rattle.cast_spec.specs.Chunk.{Inputs, callOf, answerOf, countsOf, destinati
 use Rattle.cast_spec.specs.Counted.{Counted, HowMany}
 use Rattle.cast_spec.specs.Demand1.{Demand1}
 use Rattle.cast_spec.specs.Demand3.{Demand3}
-use Rattle.cast_spec.specs.Preview.{Changes}
+use Rattle.cast_spec.specs.Preview.{previewOf, Changes}
 
 -- the column "returned" of the table "What the chunk call answers", each value in a place of its own, 0 where an answer has no such value
 abbrev pub valueFields : Answer → List ℕ
@@ -37,7 +36,7 @@ pub record Returned (I : Inputs) (n : ℕ) (fields d : List ℕ) : Type 0 where
 pub record ReturnedPreview (I : Inputs) (n : ℕ) (fields : List ℕ) (m : ℕ) : Type 0 where
   pub number : n ≡ numberOf (answerOf I)
   pub answer : fields ≡ fieldsOf (answerOf I) (countsOf I)
-  pub changed : m ≡ distance (I .destination) (destinationOf I)
+  pub changed : m ≡ previewOf I .changed
   pub demand1 : Demand1 I (answerOf I) (destinationOf I)
   pub counted : Counted (callOf I) (answerOf I) (countsOf I)
   pub changes : HowMany (Changes I) (length (I .destination)) m

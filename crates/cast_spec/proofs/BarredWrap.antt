@@ -1,11 +1,11 @@
 -- What the number 8 settles: it is given by the codes alone, and every call that it does not refuse answers as before it was given.
-use mathlib.Core.Path.{_≡_, refl, sym, ap, _∙_}
+use mathlib.Core.Path.{_≡_, refl, ap, _∙_}
 use mathlib.Core.Logic.{_↔_, _⊎_, _≢_, inl, inr}
-use mathlib.Core.Bool.{Bool, true, false, _&&_, not, cond, true≢false}
+use mathlib.Core.Bool.{Bool, true, false, not, cond, true≢false}
 use mathlib.Core.List.{List, [], _∷_}
 use Prim.Native.Nat.{ℕ, _/_, _≤_, _<_}
 use native.Mathlib.Omega.{arith}
-use lib.Dec.{eqb, ltb}
+use lib.Dec.{eqb}
 use lib.ListN.{length}
 use borrow.Author.Tests.{eqb-true, eq-eqb, leb-true}
 use Rattle.grid.proofs.Neighbours.{cut}
@@ -15,7 +15,7 @@ use Rattle.kinds.specs.Codes.{kindOf, wrapBarred}
 use Rattle.kinds.specs.declared.Answer.{Answer}
 use Rattle.kinds.specs.declared.Answer.the-variants as A
 use Rattle.counts.specs.declared.Counts.{Counts}
-use Rattle.kinds.proofs.Listed.{float-from-8, listed-codes}
+use Rattle.kinds.proofs.Listed.{float-from-8, listed-kinds}
 use Rattle.kinds.proofs.Numbers.{parts}
 use Rattle.cast_spec.specs.Chunk.{Inputs, sw, dw, codesListed, wrapPermitted, mapWhole, bytesWhole, countsMeet, Check, allPass, tested, callOf, outcomeAt, answerFrom, answerOf, bytesFrom, destinationOf, convertedOf, countsBelow, countsOf}
 use Rattle.cast_spec.proofs.Demand1.{demand1}
@@ -41,7 +41,7 @@ module _ (I : Inputs) where
     λ n.
         let c = demand1 I .barred-wrap .0 n in
         let p = parts (eqb (I .range) 2) (isFloat (kindOf (I .to))) (not-not (wrapBarred (I .to) (I .range)) (c .1)) in
-        (c .0, eqb-true (I .range) 2 (p .0), float-code (listed-codes (I .from) (I .to) (I .rounding) (I .range) (c .0) .1) (p .1)),
+        (c .0, eqb-true (I .range) 2 (p .0), float-code (listed-kinds (I .from) (I .to) (I .rounding) (I .range) (c .0) .1) (p .1)),
     λ c. demand1 I .barred-wrap .1 (c .0, ap not (barred (eq-eqb (I .range) 2 (c .1)) (is-float (c .2)))),
   )
     where

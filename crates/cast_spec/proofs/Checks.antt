@@ -41,6 +41,9 @@ tested-by P (c ∷ cs) x h g = go (c .passes) (tested-by P cs x (h .1)) g
     go true f g = f g
     go false f g = h .0
 
+pub whole-length : (l w : ℕ) → l % w ≡ 0 → l / w * w ≡ l
+whole-length l w e = omega (arith, div-add-mod' l w)
+
 chosen : (a : Bool) (x y : List ℕ) → T a → cond a x y ≡ x
 chosen true x y t = refl
 chosen false x y t = absurd t
@@ -87,16 +90,18 @@ module _ (I : Inputs) where
   unfolding callOf
   counts-meet h = eqb→eq (length (I .source) / sw I) (length (I .destination) / dw I) (counts-equal I h)
 
+  no-rest : T (callOf I .passed) → T (eqb (length (I .source) % sw I) 0) × T (eqb (length (I .destination) % dw I) 0)
+  no-rest h = both (eqb (length (I .source) % sw I) 0) (eqb (length (I .destination) % dw I) 0) (bytes-whole I h)
+
   -- the elements fill the destination
   pub elements-fill : T (callOf I .passed) → callOf I .count * dw I ≡ length (I .destination)
   unfolding callOf
-  elements-fill h = ap (λ (n : ℕ). n * dw I) (counts-meet h) ∙ whole (length (I .destination)) (dw I) (eqb→eq (length (I .destination) % dw I) 0 (no-rest h))
-    where
-      no-rest : T (callOf I .passed) → T (eqb (length (I .destination) % dw I) 0)
-      no-rest h = both (eqb (length (I .source) % sw I) 0) (eqb (length (I .destination) % dw I) 0) (bytes-whole I h) .1
+  elements-fill h = ap (λ (n : ℕ). n * dw I) (counts-meet h) ∙ whole-length (length (I .destination)) (dw I) (eqb→eq (length (I .destination) % dw I) 0 (no-rest h .1))
 
-      whole : (l w : ℕ) → l % w ≡ 0 → l / w * w ≡ l
-      whole l w e = omega (arith, div-add-mod' l w)
+  -- and the source
+  pub source-filled : T (callOf I .passed) → callOf I .count * sw I ≡ length (I .source)
+  unfolding callOf
+  source-filled h = whole-length (length (I .source)) (sw I) (eqb→eq (length (I .source) % sw I) 0 (no-rest h .0))
 
 -- ---- places that are there keep the destination's length
 module _ (o : ℕ → Outcome) (w : ℕ) where

@@ -1,15 +1,14 @@
--- What a preview tells: it is what any conversion of the same inputs answers and changes, 0 exactly where the destination would stay as it is,
--- 0 again after the conversion, and at most the bytes that are written.
+-- What a preview tells: what any conversion of the same inputs replies, and 0 exactly where that changes nothing, 0 behind it, and at most what is written.
 use mathlib.Core.Path.{_≡_, refl, sym, ap, ap₂, subst, _∙_}
-use mathlib.Core.Logic.{_↔_, _≢_, inl, ⊎-elim}
+use mathlib.Core.Logic.{_↔_, _≢_, inl}
 use mathlib.Core.Bool.{Bool, true, false, _&&_, cond}
 use mathlib.Core.List.{List, [], _∷_, _++_}
-use Prim.Native.Nat.{ℕ, zero, suc, _+_, _*_, _/_, _%_, _≤_, _<_}
-use native.Mathlib.Nat.{add-zero, le-of-eq, mul-comm}
+use Prim.Native.Nat.{ℕ, zero, suc, _+_, _*_, _/_, _%_, _≤_}
+use native.Mathlib.Nat.{add-zero}
 use native.Mathlib.Numerals.{add-one}
 use native.Mathlib.Omega.{arith}
 use lib.Dec.{T, eqb}
-use lib.ListN.{length, getD, take, drop, length-append, take-append-drop, length-take}
+use lib.ListN.{length, getD, take, drop}
 use lib.Seq.{take-suc, take-length, drop-at, drop-length, length-take-le}
 use borrow.Author.Tests.{eqb-true, eqb-false}
 use Rattle.bytes_le.specs.Bytes.{toLe}
@@ -63,10 +62,14 @@ module _ (I : Inputs) where
   pub previewed : (p : Preview) → p ≡ previewOf I → Previewed I p
   previewed p e = subst (Previewed I) (sym e) whole
 
-  -- "It equals the answer of converting into a copy of the destination, for all inputs"
-  pub as-converting : (r : Reply) (d : List ℕ) → r .answer ≡ answerOf I → r .counts ≡ countsOf I → d ≡ destinationOf I → record { reply = r; changed = distance (I .destination) d } ≡ previewOf I
+  -- the preview of what a conversion leaves
+  pub preview-is : (r : Reply) (d : List ℕ) → Contract I r d → record { reply = r; changed = distance (I .destination) d } ≡ previewOf I
   unfolding previewOf
-  as-converting r d a c b = ap₂ {C = Preview} (λ (q : Reply) (e : List ℕ). record { reply = q; changed = distance (I .destination) e }) (ap₂ {C = Reply} (λ (x : Answer) (y : Counts). record { answer = x; counts = y }) a c) b
+  preview-is r d C = ap₂ {C = Preview} (λ (q : Reply) (e : List ℕ). record { reply = q; changed = distance (I .destination) e }) (ap₂ {C = Reply} (λ (x : Answer) (y : Counts). record { answer = x; counts = y }) (C .answer) (C .counts)) (C .bytes)
+
+  -- "It equals the answer of converting into a copy of the destination, for all inputs": of any conversion and any preview
+  pub as-converting : (r : Reply) (d : List ℕ) → Contract I r d → (p : Preview) → Previewed I p → p ≡ record { reply = r; changed = distance (I .destination) d }
+  as-converting r d C p P = P .figures ∙ sym (preview-is r d C)
 
   -- 0 exactly where the destination would stay as it is
   pub zero-exactly : (previewOf I .changed ≡ 0) ↔ (destinationOf I ≡ I .destination)
@@ -115,7 +118,7 @@ module _ (o : ℕ → Outcome) (w : ℕ) where
       go (FloatOutOfRange v lo hi) r e = refl
 
 -- the inputs with another destination
-abbrev over : Inputs → List ℕ → Inputs
+abbrev pub over : Inputs → List ℕ → Inputs
 over I d = inputs (I .source) d (I .keys) (I .targets) (I .from) (I .to) (I .rounding) (I .range)
 
 module _ (I : Inputs) where
@@ -141,5 +144,5 @@ module _ (I : Inputs) where
       go false = refl
 
   -- also where a refusal has ended it
-  pub again-0 : previewOf (over I (destinationOf I)) .changed ≡ 0
-  again-0 = zero-exactly (over I (destinationOf I)) .1 written-again
+  pub again-0 : (r : Reply) (d : List ℕ) → Contract I r d → previewOf (over I d) .changed ≡ 0
+  again-0 r d C = subst (λ (e : List ℕ). previewOf (over I e) .changed ≡ 0) (sym (C .bytes)) (zero-exactly (over I (destinationOf I)) .1 written-again)

@@ -2,7 +2,7 @@
 use mathlib.Core.Path.{_≡_, refl, sym, ap, _∙_}
 use mathlib.Core.Bool.{Bool, true, false, _&&_, cond, true≢false}
 use mathlib.Core.List.{List, [], _∷_}
-use Prim.Native.Nat.{ℕ, _/_}
+use Prim.Native.Nat.{_/_}
 use lib.ListN.{length}
 use borrow.Author.Tests.{ne-eqb}
 use Rattle.kinds.specs.Answer.{unconverted}
@@ -22,22 +22,34 @@ tested-fail (c ∷ cs) x y e = go (c .passes) (tested-fail cs x y) e
     go true f e = f e
     go false f e = refl
 
+-- the checks refuse the call, by this answer
+abbrev pub RefusedBy : Inputs → Answer → Type 0
+RefusedBy I a = (allPass (checksOf I) ≡ false) × (tested (checksOf I) A.Converted ≡ a)
+
 module _ (I : Inputs) where
   none-converted : allPass (checksOf I) ≡ false → convertedOf (callOf I .count) (answerOf I) ≡ 0
   unfolding answerOf
   none-converted fails = tested-by (λ (a : Answer). convertedOf (callOf I .count) a ≡ 0) (checksOf I) _ (refl, (refl, (refl, (refl, (refl, tt))))) (λ all. absurd (true≢false (sym all ∙ fails)))
 
-  pub refused : allPass (checksOf I) ≡ false → (a : Answer) → tested (checksOf I) A.Converted ≡ a → Contract I (unconverted a) (I .destination)
+  pub refused-meets : (a : Answer) → RefusedBy I a → Contract I (unconverted a) (I .destination)
   unfolding answerOf countsOf callOf
-  refused fails a e = contract I (unconverted a) (I .destination) (sym e ∙ tested-fail (checksOf I) A.Converted _ fails) (ap (countsBelow (outcomeAt (callOf I))) (sym (none-converted fails))) (sym (not-passed I fails))
+  refused-meets a r = contract I (unconverted a) (I .destination) (sym (r .1) ∙ tested-fail (checksOf I) A.Converted _ (r .0)) (ap (countsBelow (outcomeAt (callOf I))) (sym (none-converted (r .0)))) (sym (not-passed I (r .0)))
 
-  -- ---- by the checks of a call that has no bytes to test
-  pub unknown : codesListed I ≡ false → Contract I (unconverted A.UnknownCode) (I .destination)
-  unknown a = refused (simp a) A.UnknownCode (simp a)
+  -- ---- where the checks lead to each
+  pub unknown : codesListed I ≡ false → RefusedBy I A.UnknownCode
+  unknown a = (simp a, simp a)
 
   module _ (a : codesListed I ≡ true) where
-    pub barred-wrap : wrapPermitted I ≡ false → Contract I (unconverted A.BarredWrap) (I .destination)
-    barred-wrap w = refused (simp (a, w)) A.BarredWrap (simp (a, w))
+    pub barred-wrap : wrapPermitted I ≡ false → RefusedBy I A.BarredWrap
+    barred-wrap w = (simp (a, w), simp (a, w))
 
-    pub mismatch : wrapPermitted I ≡ true → mapWhole I ≡ true → bytesWhole I ≡ true → (length (I .source) / sw I ≡ length (I .destination) / dw I → ⊥) → Contract I (unconverted (A.LengthMismatch (length (I .source) / sw I) (length (I .destination) / dw I))) (I .destination)
-    mismatch w b c n = let d = ne-eqb (length (I .source) / sw I) (length (I .destination) / dw I) n in refused (simp (a, w, b, c, d)) (A.LengthMismatch (length (I .source) / sw I) (length (I .destination) / dw I)) (simp (a, w, b, c, d))
+    module _ (w : wrapPermitted I ≡ true) where
+      pub broken-map : mapWhole I ≡ false → RefusedBy I A.BrokenMap
+      broken-map b = (simp (a, w, b), simp (a, w, b))
+
+      module _ (b : mapWhole I ≡ true) where
+        pub broken-element : bytesWhole I ≡ false → RefusedBy I A.BrokenElement
+        broken-element c = (simp (a, w, b, c), simp (a, w, b, c))
+
+        pub mismatch : bytesWhole I ≡ true → (length (I .source) / sw I ≡ length (I .destination) / dw I → ⊥) → RefusedBy I (A.LengthMismatch (length (I .source) / sw I) (length (I .destination) / dw I))
+        mismatch c n = let d = ne-eqb (length (I .source) / sw I) (length (I .destination) / dw I) n in (simp (a, w, b, c, d), simp (a, w, b, c, d))

@@ -239,18 +239,18 @@ unfolding chunks answerOf countsOf destinationOf callOf settingsOf outcomeAt ter
 chunks-hold = refl
 
 -- ---- previews: the answer, the counts, and how many bytes would change
-pub record Foreseen : Type 0 where
+pub record PreviewSample : Type 0 where
   pub inputs : Inputs
   pub wanted : Preview
 
-abbrev preview : Inputs → Answer → Counts → ℕ → Foreseen
+abbrev preview : Inputs → Answer → Counts → ℕ → PreviewSample
 preview I r t n = record { inputs = I; wanted = record { reply = record { answer = r; counts = t }; changed = n } }
 
 -- u16 1 over 0
 abbrev one-over-0 : Inputs
 one-over-0 = inputs (toLe 2 1) (toLe 2 0) [] [] 5 5 0 0
 
-unfoldable pub previews : List Foreseen
+unfoldable pub previews : List PreviewSample
 previews =
     -- two bytes are written, and one of them would change
     preview one-over-0 A.Converted (five 0 1 0 0 0) 1
@@ -258,7 +258,7 @@ previews =
     ∷ preview (inputs (toLe 8 0) (toLe 8 0x8000_0000_0000_0000) [] [] 9 9 0 0) A.Converted (five 0 1 0 0 0) 1
     -- 7, 300 i16 to u8 over 0, 0: the 7 before the refused element counts
     ∷ preview (inputs (toLe 2 7 ++ toLe 2 300) (0 ∷ 0 ∷ []) [] [] 1 4 0 0) (A.OutOfRange 1 0x4072_c000_0000_0000 (pos 0) 255) (five 0 1 0 0 0) 1
-    -- every element is of another byte than what stands there, and over what the call leaves none is
+    -- every byte would change, and over what the call leaves none
     ∷ preview (mixed 1) A.Converted (five 2 1 1 1 0) 5
     ∷ preview (inputs (mixed 1 .source) (2 ∷ 9 ∷ 7 ∷ 255 ∷ 100 ∷ []) (mixed 1 .keys) (mixed 1 .targets) 9 4 0 1) A.Converted (five 2 1 1 1 0) 0
     -- refusals that leave all the destination as it was
@@ -269,7 +269,7 @@ previews =
     ∷ preview (plain (toLe 8 0 ++ toLe 8 0) (old 3) 0) (A.LengthMismatch 2 3) noCounts 0
     ∷ []
 
-pub previews-hold : map (λ (s : Foreseen). previewOf (s .inputs)) previews ≡ map (λ (s : Foreseen). s .wanted) previews
+pub previews-hold : map (λ (s : PreviewSample). previewOf (s .inputs)) previews ≡ map (λ (s : PreviewSample). s .wanted) previews
 unfolding previews previewOf answerOf countsOf destinationOf callOf settingsOf outcomeAt ternaryOf outcomeOf beyond nanPattern patternOf valueOf lowest highest pick bitsMag size
 previews-hold = refl
 

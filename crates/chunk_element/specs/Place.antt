@@ -1,4 +1,4 @@
--- Internal: one element of a chunk, with its map and its place.
+-- Internal: one element of a chunk, with its map, and the answer to its refusal.
 use mathlib.Core.List.{List}
 use Prim.Native.Nat.{ℕ, _+_, _^_, _≤_, _<_}
 use lib.ListN.{length}
@@ -29,8 +29,8 @@ pub record SourceReady (s : Settings) (src : List ℕ) (a : ℕ) : Type 0 where
   pub ready : Ready s
   pub within : a + s .sw ≤ length src
 
--- and the map is whole
-pub record PlaceReady (s : Settings) (keys targets src : List ℕ) (a : ℕ) : Type 0 where
+-- and the map is whole: what `fit_at` asks
+pub record FitReady (s : Settings) (keys targets src : List ℕ) (a : ℕ) : Type 0 where
   pub map : MapReady s keys targets
   pub within : a + s .sw ≤ length src
 

@@ -5,7 +5,7 @@ ghost use Rattle.bytes_le.specs.Bytes.{fromLe};
 ghost use Rattle.cast_spec.specs.Element.{outcomeOf};
 ghost use Rattle.cast_spec.specs.Fit.{fitOf};
 ghost use Rattle.chunk_element.specs.Settings.{settingsFor};
-ghost use Rattle.chunk_element.specs.Place.{lookedUp, ElementReady, PlaceReady, SourceReady, refusedAnswer};
+ghost use Rattle.chunk_element.specs.Place.{lookedUp, ElementReady, FitReady, SourceReady, refusedAnswer};
 use grid::RoundingMode;
 use kinds::Answer;
 use kinds::Fit;
@@ -60,7 +60,7 @@ fn steps(b: u64, keys: &[u8], targets: &[u8], s: Settings) -> Fit
 
 // What the element at the byte `input` of the source comes to.
 pub fn fit_at(src: &[u8], keys: &[u8], targets: &[u8], s: Settings, input: usize) -> Fit
-    requires { ⌜ PlaceReady s (now keys) (now targets) (now src) input ⌝ }
+    requires { ⌜ FitReady s (now keys) (now targets) (now src) input ⌝ }
     ensures { λ r. ⌜ r ≡ fitOf (outcomeOf (settingsFor s (now (keys .entry)) (now (targets .entry))) (fromLe (take (s .sw) (drop input (now (src .entry)))))) ⌝ }
 {
     steps(bytes_le::read_le(src, input, s.sw), keys, targets, s)

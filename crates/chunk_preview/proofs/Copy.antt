@@ -2,7 +2,6 @@
 use mathlib.Core.Path.{_≡_, refl, sym, ap₂, subst, _∙_}
 use mathlib.Core.List.{List}
 use Prim.Native.Nat.{ℕ, _+_, _*_, _^_, _≤_, _<_}
-use native.Mathlib.Omega.{arith}
 use lib.ListN.{length, take, drop}
 use Rattle.bytes_le.specs.Bytes.{fromLe, toLe, put}
 use Rattle.counts.specs.Counts.{placeOf, countsIn}
@@ -15,7 +14,6 @@ use Rattle.kinds.specs.declared.Answer.{Answer}
 use Rattle.kinds.specs.declared.Answer.the-variants as A
 use Rattle.kinds.specs.declared.Fit.{Fit}
 use Rattle.kinds.specs.declared.Fit.the-variants.{Pattern}
-use Rattle.kinds.specs.declared.Preview.{Preview}
 use Rattle.kinds.specs.declared.Reply.{Reply}
 use Rattle.cast_spec.specs.Chunk.{answerNext, Refuses}
 use Rattle.cast_spec.specs.Element as E

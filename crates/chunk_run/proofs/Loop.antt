@@ -18,7 +18,7 @@ use Rattle.counts.specs.declared.Fared.{Fared}
 use Rattle.kinds.specs.declared.Answer.{Answer}
 use Rattle.kinds.specs.declared.Reply.{Reply}
 use Rattle.chunk_element.specs.Settings.{settingsFor}
-use Rattle.chunk_element.specs.Place.{PlaceReady, refusedAnswer}
+use Rattle.chunk_element.specs.Place.{FitReady, refusedAnswer}
 use Rattle.chunk_run.specs.Run.{replyOf, RunReady, Ran, outcomes}
 use Rattle.kinds.specs.declared.Outcome.{Outcome}
 use Rattle.kinds.specs.declared.Outcome.the-variants.{Stored}
@@ -139,7 +139,7 @@ module _ (s : Settings) (keys targets src dst₀ : List ℕ) (n : ℕ) (ask : Ru
   pub target-end : y + s .dw ≤ length dst
   target-end = subst (λ (z : ℕ). z + s .dw ≤ length dst) (sym (at .target)) (subst (λ (z : ℕ). i * s .dw + s .dw ≤ z) (sym (at .same)) (fit (s .dw) (length dst₀) (ask .target)))
 
-  pub turn-asks : PlaceReady s keys targets src x
+  pub turn-asks : FitReady s keys targets src x
   turn-asks = record { map = ask .map; within = source-end }
 
   pub store-asks : Place dst y (s .dw)

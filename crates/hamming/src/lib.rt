@@ -5,7 +5,7 @@ ghost use lib.ListN.{length, take, drop};
 ghost use Rattle.bytes_le.specs.Bytes.{toLe};
 ghost use Rattle.hamming.specs.Distance.{distance};
 
-// How many of the width bytes at a place of s differ from those of v.
+// How many of the `width` bytes of s from `at` on differ from those of v.
 pub fn distance_le(s: &[u8], at: usize, width: usize, v: u64) -> usize
     requires { ⌜ at + width ≤ length (now s) ⌝ }
     ensures { λ r. ⌜ r ≡ distance (take width (drop at (now (s .entry)))) (toLe width v) ⌝ }

@@ -1,4 +1,4 @@
--- The listed kinds: what the row of a code has, and that it gives its kind back.
+-- The listed kinds: what the row of a code has, that it gives its kind back, and that the kinds of listed codes are listed.
 use mathlib.Core.Path.{_≡_, refl, sym, ap, subst}
 use mathlib.Core.Bool.{Bool, true, false, _&&_, cond}
 use mathlib.Core.Logic.{inl, inr}
@@ -67,8 +67,8 @@ pub kind-back : (code : ℕ) → code < 10 → kindIn (formatOf (kindOf code)) �
 unfolding formatOf
 kind-back code h = by-kind (λ (k : Kind). kindIn (formatOf k) ≡ k) (λ s c l. refl) refl refl code h
 
--- the codes of a call that are listed
-pub listed-codes : (f t o g : ℕ) → ltb f 10 && ltb t 10 && ltb o 5 && ltb g 3 ≡ true → (f < 10) × (t < 10)
-listed-codes f t o g e =
+-- where a call's codes are listed, its kinds are
+pub listed-kinds : (f t o g : ℕ) → ltb f 10 && ltb t 10 && ltb o 5 && ltb g 3 ≡ true → (f < 10) × (t < 10)
+listed-kinds f t o g e =
     let p = parts (ltb f 10) (ltb t 10) (parts (ltb f 10 && ltb t 10) (ltb o 5) (parts (ltb f 10 && ltb t 10 && ltb o 5) (ltb g 3) e .0) .0) in
     (ltb-true f 10 (p .0), ltb-true t 10 (p .1))

@@ -1,4 +1,4 @@
--- A refusal names a position or leaves all the destination as it was, and none does both; of the numbers up to 8, 1 to 4 and 8 leave all.
+-- A refusal names a position or leaves all the destination as it was, and none does both; of the numbers up to 8, 1 to 4 and 8 leave all. First, a test of two parts.
 use mathlib.Core.Path.{_≡_, refl, sym, subst}
 use mathlib.Core.Logic.{_⊎_, inl, inr}
 use mathlib.Core.Bool.{Bool, true, false, _&&_, not, true≢false}

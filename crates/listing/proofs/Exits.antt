@@ -15,9 +15,8 @@ use Rattle.patterns.specs.Kind.{width}
 use Rattle.kinds.specs.Codes.{kindOf}
 use Rattle.kinds.specs.Row.{rowOf}
 use Rattle.kinds.specs.declared.KindRow.{KindRow}
-use Rattle.kinds.proofs.Listed.{row-width}
+use Rattle.kinds.proofs.Listed.{row-width, listed-kinds}
 use Rattle.cast_spec.specs.Chunk.{codesListed, wrapPermitted}
-use Rattle.kinds.proofs.Listed.{listed-codes}
 use Rattle.listing.specs.declared.Layout.{Layout}
 use Rattle.report.specs.Report.{refusedLine}
 use Rattle.listing.specs.Listing.{entries, keysEnd, mapEnd, targets, elements, call, chunkOf, reportOf, refusalOf, listingOf}
@@ -57,7 +56,7 @@ module _ (s : List ℕ) where
 
     module _ (a : codesListed (call s) ≡ true) where
       pub head-in : HeadIn s
-      head-in = let c = listed-codes (getD s 0 0) (getD s 1 0) (getD s 2 0) (getD s 3 0) a in record { six = six; from = c .0; to = c .1 }
+      head-in = let c = listed-kinds (getD s 0 0) (getD s 1 0) (getD s 2 0) (getD s 3 0) a in record { six = six; from = c .0; to = c .1 }
 
       pub barred : wrapPermitted (call s) ≡ false → 8 ≡ refusalOf s
       unfolding refusalOf

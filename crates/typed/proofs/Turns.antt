@@ -30,7 +30,7 @@ use Rattle.cast_spec.proofs.Steps.{no-map}
 use Rattle.cast_spec.proofs.Contract.{contract}
 use Rattle.cast_spec.proofs.Checks.{answer-is, destination-is}
 use Rattle.cast_spec.proofs.Widths.{kind-fits, width-pos}
-use Rattle.cast_spec.proofs.Refusals.{unknown, barred-wrap, mismatch}
+use Rattle.cast_spec.proofs.Refusals.{RefusedBy, unknown, barred-wrap, mismatch, refused-meets}
 use Rattle.cast_spec.proofs.Runs.{Run, done, refused, kept, one-more, count-le, refused-converted}
 use Rattle.cast_spec.specs.Element.{Entry, Settings, lookupOf, foundOr, outcomeOf}
 use Rattle.cast_spec.specs.Fit.{unmapped}
@@ -245,8 +245,8 @@ module _ {X Y Z : Type 0} (P : Elements X Y Z) (xs : List X) (ys : List Z) (roun
         long : length (map of ds) ≡ length ds
         long = length-map ds of
 
-        uncounted : (a : Answer) → Contract In (record { answer = a; counts = noCounts }) (bytes ds) → Contract In (reply a ts) (bytes ds)
-        uncounted a = subst (λ (c : Counts). Contract In (record { answer = a; counts = c }) (bytes ds)) (sym none-yet)
+        uncounted : (a : Answer) → RefusedBy In a → Contract In (reply a ts) (bytes ds)
+        uncounted a r = subst (λ (c : Counts). Contract In (record { answer = a; counts = c }) (bytes ds)) (sym none-yet) (refused-meets In a r)
 
         by-tests : (t : Bool) → ltb rounding 5 && ltb range 3 ≡ t → (b : Bool) → wrapBarred to range ≡ b → (u : Bool) → eqb (length ps) (length ds) ≡ u
             → Inv (let s = cond t (cond b (stopped rule choice 0 A.BarredWrap) (cond u (going rule choice 0 0) (stopped rule choice 0 (A.LengthMismatch (length ps) (length ds))))) (stopped rule choice 0 A.UnknownCode) in cond (s .more) (stateAt (s .rounding) (s .range) ps 0) s) ds ts
@@ -256,7 +256,7 @@ module _ {X Y Z : Type 0} (P : Elements X Y Z) (xs : List X) (ys : List Z) (roun
             let n : length ps ≡ length ds → ⊥ = eqb-false (length ps) (length ds) f in
             over (going rule choice 0 0) 0 (A.LengthMismatch (length ps) (length ds)) ds ts refl six
             (uncounted (A.LengthMismatch (length ps) (length ds))
-            (subst (λ (a : Answer). Contract In (record { answer = a; counts = noCounts }) (bytes ds)) (ap₂ A.LengthMismatch (source-whole (map of ds) .0) (target-whole (map of ds) .0 ∙ long))
+            (subst (RefusedBy In) (ap₂ A.LengthMismatch (source-whole (map of ds) .0) (target-whole (map of ds) .0 ∙ long))
             (mismatch In (codes-are (map of ds) ∙ e) (ap not g) (map-is-whole (map of ds)) (bytes-are-whole (map of ds)) (λ h. n (sym (source-whole (map of ds) .0) ∙ h ∙ target-whole (map of ds) .0 ∙ long)))))
         by-tests true e false g true f = let m = eqb-true (length ps) (length ds) f in at-position (going rule choice 0 0) (record { rule-is = refl; choice-is = refl }) 0 ds ts (omega arith) m refl six (first (map of ds) e (ap not g) (m ∙ sym long)) none-yet
 

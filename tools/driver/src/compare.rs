@@ -200,17 +200,19 @@ impl Check {
         self.before.clear();
         self.before.extend_from_slice(dst);
         let told = ours_preview(s, src, dst, keys, targets);
+        let written = *dst != self.before[..];
         let (answer, counts) = route.call(s, src, dst, keys, targets);
         let due = (answer, counts, differing(&self.before, dst));
         self.tally.calls += 1;
         self.tally.previews += 1;
-        if told != due {
+        if told != due || written {
             let element = if s.from < 10 {
                 src.get(..width(s.from)).map_or(0, pattern)
             } else {
                 0
             };
-            let text = format!("preview {told:?} where the call answers and changes {due:?}");
+            let wrote = if written { ", and writes," } else { "" };
+            let text = format!("the preview tells{wrote} {told:?} where the call answers and changes {due:?}");
             self.tally.differs(s, element, text);
         }
         (answer, counts)

@@ -1,5 +1,5 @@
-//! Both sides of the comparison. Ours: `ours`, the chunk call, `ours_preview`, its preview, and `ours_typed`, the typed calls. The original's: `reference`, its element
-//! functions applied in order, and `slices`, its slice functions. It has no counts: `account` has them.
+//! Both sides of the comparison. Ours: `ours`, the chunk call, `ours_preview`, its preview, and `ours_typed`, the typed calls. The original's:
+//! `reference`, its element functions applied in order, and `slices`, its slice functions. It has no counts: `account` has them.
 use original::{
     convert_float_to_float, convert_float_to_int, convert_int_to_float, convert_int_to_int, convert_slice_float_to_float,
     convert_slice_float_to_int, convert_slice_int_to_float, convert_slice_int_to_int, CastError, CastFloat, CastInt, CastInto,

@@ -1,19 +1,19 @@
 -- `chunk_checks::check` meets its contract: each way out is one of the laws of the checks.
 use mathlib.Core.Path.{_≡_, sym, ap, ap₂, subst, _∙_}
 use mathlib.Core.Bool.{true, _&&_, not}
-use Prim.Native.Nat.{ℕ, _/_, _%_, _<_}
+use Prim.Native.Nat.{_/_, _%_, _<_}
 use lib.Dec.{eqb}
 use lib.ListN.{length}
 use denote.Ref.{now}
 use Rattle.kinds.specs.declared.Answer.the-variants as A
 use Rattle.cast_spec.specs.Chunk.{Inputs, inputs, codesListed, wrapPermitted, mapWhole, bytesWhole, sw, dw}
+use Rattle.cast_spec.proofs.Refusals.{unknown, barred-wrap, broken-map, broken-element, mismatch}
 use Rattle.cast_spec.proofs.Widths.{width-pos}
 use Rattle.chunk_element.specs.declared.Settings.{Settings}
-use Rattle.chunk_checks.specs.declared.Checked.{Checked}
 use Rattle.chunk_checks.specs.declared.Checked.the-variants.{Refused, Passed}
 use Rattle.chunk_checks.specs.Settings.{settingsBy}
-use Rattle.kinds.proofs.Listed.{listed-codes}
-use Rattle.chunk_checks.proofs.Exits.{unknown, barred-wrap, broken-map, broken-element, mismatch, passed}
+use Rattle.kinds.proofs.Listed.{listed-kinds}
+use Rattle.chunk_checks.proofs.Exits.{refused, passed}
 use borrow.Author.Needs.{needs}
 use borrow.Author.Tests.{not-true, not-false}
 use Rattle.chunk_checks.proofs.check.Statement.{statement}
@@ -43,7 +43,7 @@ wrap-permitted : (c : tie.Else2) → wrapPermitted (of c) ≡ true
 wrap-permitted c = ap not (sym (c .before .wrap-barred .ensures) ∙ c .if2 .left)
 
 codes : (c : tie.Else2) → (at c .args .from < 10) × (at c .args .to < 10)
-codes c = let a = at c .args in listed-codes (a .from) (a .to) (a .rounding) (a .range) (codes-listed c)
+codes c = let a = at c .args in listed-kinds (a .from) (a .to) (a .rounding) (a .range) (codes-listed c)
 
 abbrev settings : tie.After-settings-of → Settings
 settings c = c .settings-of .result
@@ -84,10 +84,13 @@ same-counts : (c : tie.Else5) → let u = c .before .before .before .before .bef
 same-counts c = c .if5 .left
 
 returns : tie.Need-returns
-returns c = unknown (given (c .before)) (sym (c .before .codes-listed .ensures) ∙ not-true (c .before .codes-listed .result) (c .if1 .taken))
+returns c = let I = given (c .before) in refused I A.UnknownCode (unknown I (sym (c .before .codes-listed .ensures) ∙ not-true (c .before .codes-listed .result) (c .if1 .taken)))
 
 returns-2 : tie.Need-returns-2
-returns-2 c = let e = c .before .before in barred-wrap (given (e .before)) (listed e) (ap not (sym (c .before .wrap-barred .ensures) ∙ c .if2 .taken))
+returns-2 c =
+    let e = c .before .before in
+    let I = given (e .before) in
+    refused I A.BarredWrap (barred-wrap I (listed e) (ap not (sym (c .before .wrap-barred .ensures) ∙ c .if2 .taken)))
 
 settings-of-requires : tie.Need-settings-of-requires
 settings-of-requires c κs = codes c
@@ -98,7 +101,7 @@ whole-map-requires c κs = widths c
 returns-3 : tie.Need-returns-3
 returns-3 c =
     let e = c .before .before .before in
-    broken-map (of e) (codes-listed e) (wrap-permitted e) (sym (map-told (c .before)) ∙ not-true (c .before .whole-map .result) (c .if3 .taken))
+    refused (of e) A.BrokenMap (broken-map (of e) (codes-listed e) (wrap-permitted e) (sym (map-told (c .before)) ∙ not-true (c .before .whole-map .result) (c .if3 .taken)))
 
 whole-elements-requires : tie.Need-whole-elements-requires
 whole-elements-requires c κs = widths (c .before .before)
@@ -107,7 +110,7 @@ returns-4 : tie.Need-returns-4
 returns-4 c =
     let m = c .before .before in
     let e = m .before .before .before in
-    broken-element (of e) (codes-listed e) (wrap-permitted e) (map-whole m) (sym (bytes-told (c .before)) ∙ not-true (c .before .whole-elements .result) (c .if4 .taken))
+    refused (of e) A.BrokenElement (broken-element (of e) (codes-listed e) (wrap-permitted e) (map-whole m) (sym (bytes-told (c .before)) ∙ not-true (c .before .whole-elements .result) (c .if4 .taken)))
 
 div-n : tie.Need-div-n
 div-n c = widths (c .before .before .before .before .before) .0
@@ -121,7 +124,7 @@ returns-5 c =
     let m = b .before .before in
     let e = m .before .before .before in
     let k = counts (c .before) in
-    ap Refused (ap₂ A.LengthMismatch (k .0) (k .1)) ∙ mismatch (of e) (codes-listed e) (wrap-permitted e) (map-whole m) (bytes-whole b) (λ d. c .if5 .taken (k .0 ∙ d ∙ sym (k .1)))
+    ap Refused (ap₂ A.LengthMismatch (k .0) (k .1)) ∙ refused (of e) _ (mismatch (of e) (codes-listed e) (wrap-permitted e) (map-whole m) (bytes-whole b) (λ d. c .if5 .taken (k .0 ∙ d ∙ sym (k .1))))
 
 returns-6 : tie.Need-returns-6
 returns-6 c =

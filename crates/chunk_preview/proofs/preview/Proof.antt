@@ -1,5 +1,5 @@
 -- `chunk_preview::preview` meets its contract: the loop's invariant is that of a run over a copy of the destination.
-use mathlib.Core.Path.{_≡_, sym, subst, _∙_}
+use mathlib.Core.Path.{_≡_, subst, _∙_}
 use Prim.Native.Nat.{ℕ, _+_, _-_, _≤_}
 use native.Mathlib.Omega.{arith}
 use lib.ListN.{length}

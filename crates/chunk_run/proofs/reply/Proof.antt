@@ -1,7 +1,6 @@
 -- `chunk_run::reply` meets its contract: its counts are those of the tally.
 use mathlib.Core.Path.{ap}
 use borrow.Author.Needs.{needs}
-use Rattle.counts.specs.declared.Counts.{Counts}
 use Rattle.chunk_run.specs.Run.{replyOf}
 use Rattle.chunk_run.proofs.reply.Statement.{statement}
 use Rattle.chunk_run.proofs.reply.Tie as tie

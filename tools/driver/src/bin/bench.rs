@@ -235,7 +235,7 @@ fn title(row: &Row) -> String {
 fn previews(repeats: usize) {
     println!();
     println!(
-        "the preview of the same chunks, over a destination that holds what the conversion leaves, and over one that holds no such byte"
+        "the preview of the same chunks, over a destination that holds what the conversion leaves, and over one that differs from it in every byte"
     );
     println!("| conversion | data | convert 4,096 | preview, same | preview, other | convert 1,000,000 | preview, same | preview, other |");
     println!("|---|---|---|---|---|---|---|---|");
