@@ -1,4 +1,4 @@
--- What a preview tells: what any conversion of the same inputs replies, and 0 exactly where that changes nothing, 0 behind it, and at most what is written.
+-- What a preview tells: what any conversion of the same inputs replies, 0 exactly where that changes nothing, 0 after it, and at most what is written.
 use mathlib.Core.Path.{_≡_, refl, sym, ap, ap₂, subst, _∙_}
 use mathlib.Core.Logic.{_↔_, _≢_, inl}
 use mathlib.Core.Bool.{Bool, true, false, _&&_, cond}
@@ -23,7 +23,7 @@ use Rattle.kinds.specs.declared.Outcome.{Outcome}
 use Rattle.kinds.specs.declared.Outcome.the-variants.{Stored, NanOrInf, OutOfRange, FloatOutOfRange}
 use Rattle.kinds.specs.declared.Preview.{Preview}
 use Rattle.kinds.specs.declared.Reply.{Reply}
-use Rattle.cast_spec.specs.Chunk.{Inputs, inputs, sw, dw, codesListed, wrapPermitted, mapWhole, Call, settingsOf, callOf, outcomeAt, answerOf, countsOf, destinationOf, convertedOf, bytesNext, bytesFrom}
+use Rattle.cast_spec.specs.Chunk.{Inputs, inputs, sw, dw, codesListed, wrapPermitted, mapWhole, Call, settingsOf, callOf, outcomeAt, answerOf, destinationOf, convertedOf, bytesNext, bytesFrom}
 use Rattle.cast_spec.specs.Contract.{Contract}
 use Rattle.cast_spec.specs.Counted.{HowMany}
 use Rattle.cast_spec.specs.Preview.{previewOf, Changes, Previewed}

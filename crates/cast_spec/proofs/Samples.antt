@@ -1,4 +1,4 @@
--- The samples of document 01, the inputs that tell its false casts apart, and whole calls: tables, each proved by one theorem.
+-- The samples of document 01, the inputs that tell its false casts apart, whole calls and their previews: tables, each proved by one theorem.
 use mathlib.Core.Path.{_≡_, refl}
 use mathlib.Core.List.{List, [], _∷_, _++_, map}
 use Prim.Native.Nat.{ℕ, _+_, _-_, _*_, _^_, _<_}
@@ -254,6 +254,8 @@ unfoldable pub previews : List PreviewSample
 previews =
     -- two bytes are written, and one of them would change
     preview one-over-0 A.Converted (five 0 1 0 0 0) 1
+    -- u16 257 over 0: one element, and both of its bytes would change
+    ∷ preview (inputs (toLe 2 257) (toLe 2 0) [] [] 5 5 0 0) A.Converted (five 0 1 0 0 0) 2
     -- f64 0 over -0: one number, and one byte that would change
     ∷ preview (inputs (toLe 8 0) (toLe 8 0x8000_0000_0000_0000) [] [] 9 9 0 0) A.Converted (five 0 1 0 0 0) 1
     -- 7, 300 i16 to u8 over 0, 0: the 7 before the refused element counts

@@ -1,12 +1,11 @@
 -- The ways out of the checks: a refusal that they lead to, or the settings and the count of a call that passes them all.
 use mathlib.Core.Path.{_≡_, sym, ap, _∙_}
-use mathlib.Core.Bool.{true, cond}
+use mathlib.Core.Bool.{true}
 use Prim.Native.Nat.{_/_}
 use lib.ListN.{length}
 use borrow.Author.Tests.{eq-eqb}
 use Rattle.kinds.specs.declared.Answer.{Answer}
-use Rattle.kinds.specs.declared.Answer.the-variants.{Converted}
-use Rattle.cast_spec.specs.Chunk.{Inputs, sw, dw, codesListed, wrapPermitted, mapWhole, bytesWhole, checksOf, tested, callOf}
+use Rattle.cast_spec.specs.Chunk.{Inputs, sw, dw, codesListed, wrapPermitted, mapWhole, bytesWhole, callOf}
 use Rattle.cast_spec.proofs.Refusals.{RefusedBy}
 use Rattle.chunk_checks.specs.declared.Checked.the-variants.{Refused, Passed}
 use Rattle.chunk_checks.specs.Checked.{settingsFrom, checkedOf}

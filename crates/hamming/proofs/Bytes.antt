@@ -62,7 +62,7 @@ module _ (s : List ℕ) (a w v : ℕ) where
 
 -- ---- the w bytes at a place a of s, and as many of v
 module _ (s : List ℕ) (a w v : ℕ) (room : a + w ≤ length s) where
-  pub part-long : length (take w (drop a s)) ≡ length (toLe w v)
+  part-long : length (take w (drop a s)) ≡ length (toLe w v)
   part-long = length-take-le w (drop a s) (subst (λ (n : ℕ). w ≤ n) (sym (length-drop a s)) (omega arith)) ∙ sym (length-toLe w v)
 
   pub at-most-width : distance (take w (drop a s)) (toLe w v) ≤ w
