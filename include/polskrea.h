@@ -120,8 +120,8 @@ uint8_t polskrea_convert(const uint8_t *src, size_t src_len,
  *
  * `changed` counts the places at which the bytes of `dst` differ from those that polskrea_convert would leave in it. Bytes, not numbers: 0.0
  * over -0.0 changes one. It is 0 for 1 to 4 and 8; for 5, 6 and 7 it counts what would change before the refused element. It is always
- * written. It is never more than the bytes that would be written, and 0 where polskrea_convert has been called with the same arguments and
- * the elements, the map and `dst` are as that call left them: crates/cast_spec/proofs/Previews.antt proves these two.
+ * written. It is never more than the bytes that would be written, and it is 0 right after polskrea_convert with the same arguments, even where
+ * that was refused: crates/cast_spec/proofs/Previews.antt proves these two.
  *
  * It stands in libpolskrea_preview.a, which `rt staticlib polskrea_preview` makes; what is said above of libpolskrea.a holds of it too.
  *

@@ -345,7 +345,7 @@ pub struct Preview {
     /// What [`convert`] would return. Where it refuses a NaN it holds that NaN, and is then unequal to itself.
     pub answer: Result<Counts, Refused>,
     /// How many bytes of the destination it would change: bytes, so that `0.0` over `-0.0` changes one. For the refusals 5 to 7 those before the
-    /// refused element; 0 for the others.
+    /// refused element; 0 for the other refusals.
     pub changed: u64,
 }
 
