@@ -1,5 +1,7 @@
 pub mod Sums
-pub mod Halves
 pub mod Places
-pub mod LentBytes
+pub mod Widths
 pub mod Unique
+pub mod Fetches
+pub mod Stores
+pub mod Witness

@@ -25,12 +25,16 @@ toLe-fromLe (x ∷ xs) h =
 pub one-row : (xs ys : List ℕ) → AreBytes xs → AreBytes ys → length xs ≡ length ys → fromLe xs ≡ fromLe ys → xs ≡ ys
 one-row xs ys h g e f = sym (toLe-fromLe xs h) ∙ ap₂ toLe e f ∙ toLe-fromLe ys g
 
-take-bytes : (n : ℕ) (xs : List ℕ) → AreBytes xs → AreBytes (take n xs)
+pub append-bytes : (xs ys : List ℕ) → AreBytes xs → AreBytes ys → AreBytes (xs ++ ys)
+append-bytes [] ys h g = g
+append-bytes (x ∷ xs) ys h g = (h .0, append-bytes xs ys (h .1) g)
+
+pub take-bytes : (n : ℕ) (xs : List ℕ) → AreBytes xs → AreBytes (take n xs)
 take-bytes zero xs h = tt
 take-bytes (suc n) [] h = tt
 take-bytes (suc n) (x ∷ xs) h = (h .0, take-bytes n xs (h .1))
 
-drop-bytes : (n : ℕ) (xs : List ℕ) → AreBytes xs → AreBytes (drop n xs)
+pub drop-bytes : (n : ℕ) (xs : List ℕ) → AreBytes xs → AreBytes (drop n xs)
 drop-bytes zero xs h = h
 drop-bytes (suc n) [] h = tt
 drop-bytes (suc n) (x ∷ xs) h = drop-bytes n xs (h .1)

@@ -1,106 +1,126 @@
-// Numbers as bytes, lowest first. Each width is read and written by halves, which compiles to one load or one store.
+// Numbers as bytes, lowest first, read straight from a chunk's own bytes and put straight into them. `get_le` and `put_le` are of any width to 8; with
+// the width fixed, in a function of its own, the compiler makes one load or one store of the loop.
 ghost use mathlib.Core.Path.{_≡_};
-ghost use Prim.Native.Nat.{_<_, _^_};
-ghost use lib.ListN.{length, take, drop};
-ghost use Rattle.bytes_le.specs.Bytes.{fromLe, toLe, Place, put};
+ghost use Prim.Native.Nat.{_+_, _*_, _≤_};
+ghost use lib.ListN.{length};
+ghost use Rattle.bytes_le.specs.Bytes.{Fetched, Place, put};
 
-fn wide(x: u8) -> u64
-    ensures { λ r. ⌜ (r ≡ x) × (r < 256) ⌝ }
+// ---- reading
+
+// The number of the width bytes of s from `at` on: each byte times 256 to its place among them.
+fn get_le(s: &[u8], at: usize, width: usize) -> u64
+    requires { ⌜ (width ≤ 8) × (at + width ≤ length (now s)) ⌝ }
+    ensures { λ r. ⌜ Fetched (now (s .entry)) at width r ⌝ }
 {
-    x as u64
+    let mut v = 0;
+    let mut k = 0;
+    while k < width {
+        v += (s[at + k] as u64) << (8 * k);
+        k += 1;
+    }
+    v
 }
 
-// The number of one byte.
-pub fn get1(s: &[u8]) -> u64
-    requires { ⌜ length (now s) ≡ 1 ⌝ }
-    ensures { λ r. ⌜ (r ≡ fromLe (now (s .entry))) × (r < 2 ^ 8) ⌝ }
+fn get1(s: &[u8], at: usize) -> u64
+    requires { ⌜ at + 1 ≤ length (now s) ⌝ }
+    ensures { λ r. ⌜ Fetched (now (s .entry)) at 1 r ⌝ }
 {
-    wide(s[0])
+    get_le(s, at, 1)
 }
 
-// The number of two bytes.
-pub fn get2(s: &[u8]) -> u64
-    requires { ⌜ length (now s) ≡ 2 ⌝ }
-    ensures { λ r. ⌜ (r ≡ fromLe (now (s .entry))) × (r < 2 ^ 16) ⌝ }
+fn get2(s: &[u8], at: usize) -> u64
+    requires { ⌜ at + 2 ≤ length (now s) ⌝ }
+    ensures { λ r. ⌜ Fetched (now (s .entry)) at 2 r ⌝ }
 {
-    get1(&s[0..1]) + get1(&s[1..2]) * 256
+    get_le(s, at, 2)
 }
 
-// The number of four bytes.
-pub fn get4(s: &[u8]) -> u64
-    requires { ⌜ length (now s) ≡ 4 ⌝ }
-    ensures { λ r. ⌜ (r ≡ fromLe (now (s .entry))) × (r < 2 ^ 32) ⌝ }
+fn get4(s: &[u8], at: usize) -> u64
+    requires { ⌜ at + 4 ≤ length (now s) ⌝ }
+    ensures { λ r. ⌜ Fetched (now (s .entry)) at 4 r ⌝ }
 {
-    get2(&s[0..2]) + get2(&s[2..4]) * 65536
+    get_le(s, at, 4)
 }
 
-// The number of eight bytes.
-pub fn get8(s: &[u8]) -> u64
-    requires { ⌜ length (now s) ≡ 8 ⌝ }
-    ensures { λ r. ⌜ (r ≡ fromLe (now (s .entry))) × (r < 2 ^ 64) ⌝ }
+fn get8(s: &[u8], at: usize) -> u64
+    requires { ⌜ at + 8 ≤ length (now s) ⌝ }
+    ensures { λ r. ⌜ Fetched (now (s .entry)) at 8 r ⌝ }
 {
-    get4(&s[0..4]) + get4(&s[4..8]) * 4294967296
+    get_le(s, at, 8)
 }
 
-// Puts a number's lowest byte.
-pub fn put1(d: &mut [u8], v: u64)
-    requires { ⌜ length (now d) ≡ 1 ⌝ }
-    ensures { λ _. ⌜ now (d .exit) ≡ toLe 1 v ⌝ }
-{
-    d[0] = (v % 256) as u8;
-}
-
-// Puts a number's lowest two bytes.
-pub fn put2(d: &mut [u8], v: u64)
-    requires { ⌜ length (now d) ≡ 2 ⌝ }
-    ensures { λ _. ⌜ now (d .exit) ≡ toLe 2 v ⌝ }
-{
-    put1(&mut d[0..1], v);
-    put1(&mut d[1..2], v / 256);
-}
-
-// Puts a number's lowest four bytes.
-pub fn put4(d: &mut [u8], v: u64)
-    requires { ⌜ length (now d) ≡ 4 ⌝ }
-    ensures { λ _. ⌜ now (d .exit) ≡ toLe 4 v ⌝ }
-{
-    put2(&mut d[0..2], v);
-    put2(&mut d[2..4], v / 65536);
-}
-
-// Puts a number's lowest eight bytes.
-pub fn put8(d: &mut [u8], v: u64)
-    requires { ⌜ length (now d) ≡ 8 ⌝ }
-    ensures { λ _. ⌜ now (d .exit) ≡ toLe 8 v ⌝ }
-{
-    put4(&mut d[0..4], v);
-    put4(&mut d[4..8], v / 4294967296);
-}
-
-// The pattern of the width bytes at a place of s.
+// The number of the width bytes of s from `at` on, of a kind's width.
 pub fn read_le(s: &[u8], at: usize, width: usize) -> u64
     requires { ⌜ Place (now s) at width ⌝ }
-    ensures { λ r. ⌜ (r ≡ fromLe (take width (drop at (now (s .entry))))) × (r < 256 ^ width) ⌝ }
+    ensures { λ r. ⌜ Fetched (now (s .entry)) at width r ⌝ }
 {
-    let end = at + width;
     match width {
-        1 => get1(&s[at..end]),
-        2 => get2(&s[at..end]),
-        4 => get4(&s[at..end]),
-        _ => get8(&s[at..end]),
+        1 => get1(s, at),
+        2 => get2(s, at),
+        4 => get4(s, at),
+        _ => get8(s, at),
     }
 }
 
-// Puts the width bytes of v at a place of d, and keeps every other byte.
+// The bit pattern of the element at the position i of a chunk s of elements of `width` bytes.
+pub fn fetch(s: &[u8], i: usize, width: usize) -> u64
+    requires { ⌜ Place (now s) (i * width) width ⌝ }
+    ensures { λ r. ⌜ Fetched (now (s .entry)) (i * width) width r ⌝ }
+{
+    read_le(s, i * width, width)
+}
+
+// ---- writing
+
+// Puts the width lowest bytes of v from `at` on, and keeps every other byte of d.
+fn put_le(d: &mut [u8], at: usize, width: usize, v: u64)
+    requires { ⌜ (width ≤ 8) × (at + width ≤ length (now d)) ⌝ }
+    ensures { λ _. ⌜ now (d .exit) ≡ put (now (d .entry)) at width v ⌝ }
+{
+    let mut k = 0;
+    while k < width {
+        d[at + k] = ((v >> (8 * k)) % 256) as u8;
+        k += 1;
+    }
+}
+
+fn put1(d: &mut [u8], at: usize, v: u64)
+    requires { ⌜ at + 1 ≤ length (now d) ⌝ }
+    ensures { λ _. ⌜ now (d .exit) ≡ put (now (d .entry)) at 1 v ⌝ }
+{
+    put_le(d, at, 1, v);
+}
+
+fn put2(d: &mut [u8], at: usize, v: u64)
+    requires { ⌜ at + 2 ≤ length (now d) ⌝ }
+    ensures { λ _. ⌜ now (d .exit) ≡ put (now (d .entry)) at 2 v ⌝ }
+{
+    put_le(d, at, 2, v);
+}
+
+fn put4(d: &mut [u8], at: usize, v: u64)
+    requires { ⌜ at + 4 ≤ length (now d) ⌝ }
+    ensures { λ _. ⌜ now (d .exit) ≡ put (now (d .entry)) at 4 v ⌝ }
+{
+    put_le(d, at, 4, v);
+}
+
+fn put8(d: &mut [u8], at: usize, v: u64)
+    requires { ⌜ at + 8 ≤ length (now d) ⌝ }
+    ensures { λ _. ⌜ now (d .exit) ≡ put (now (d .entry)) at 8 v ⌝ }
+{
+    put_le(d, at, 8, v);
+}
+
+// Puts the width lowest bytes of v from `at` on, of a kind's width, and keeps every other byte of d.
 pub fn write_le(d: &mut [u8], at: usize, width: usize, v: u64)
     requires { ⌜ Place (now d) at width ⌝ }
     ensures { λ _. ⌜ now (d .exit) ≡ put (now (d .entry)) at width v ⌝ }
 {
-    let end = at + width;
     match width {
-        1 => put1(&mut d[at..end], v),
-        2 => put2(&mut d[at..end], v),
-        4 => put4(&mut d[at..end], v),
-        _ => put8(&mut d[at..end], v),
+        1 => put1(d, at, v),
+        2 => put2(d, at, v),
+        4 => put4(d, at, v),
+        _ => put8(d, at, v),
     }
 }

@@ -3,6 +3,7 @@ pub mod Steps
 pub mod Each
 pub mod Places
 pub mod Widths
+pub mod Fetch
 pub mod Checks
 pub mod Demand3
 pub mod Overrun

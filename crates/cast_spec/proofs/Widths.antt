@@ -3,11 +3,12 @@ use mathlib.Core.Path.{_≡_, refl, sym, ap, subst, _∙_}
 use mathlib.Core.Bool.{Bool, true, false, cond}
 use mathlib.Core.Logic.{inl, inr}
 use Prim.Native.Nat.{ℕ, zero, suc, _-_, _*_, _/_, _^_, _<_}
-use native.Mathlib.Nat.{mul-div-right, pow-suc}
+use native.Mathlib.Nat.{mul-div-right}
 use native.Mathlib.Omega.{arith}
 use lib.Dec.{ltb, eqb, lit<}
-use lib.Pow.{pow-add}
 use Rattle.bytes_le.specs.Bytes.{Width}
+use Rattle.bytes_le.proofs.Sums.{byte-patterns}
+use Rattle.bytes_le.proofs.Widths.{positive-width}
 use Rattle.patterns.specs.Kind.{Kind, integer, f32, f64, bits, width}
 use Rattle.kinds.specs.Codes.{kindOf}
 use Rattle.kinds.proofs.Listed.{by-kind}
@@ -26,12 +27,6 @@ power-width (suc (suc (suc (suc c)))) h = absurd (omega arith)
 pub listed-width : (code : ℕ) → code < 10 → Width (width (kindOf code))
 listed-width = by-kind (λ (k : Kind). Width (width k)) (λ s c h. subst Width (sym (bytes-of-bits (2 ^ c))) (power-width c h)) (inr (inr (inl refl))) (inr (inr (inr refl)))
 
-pub positive-width : {w : ℕ} → Width w → 0 < w
-positive-width (inl e) = omega arith
-positive-width (inr (inl e)) = omega arith
-positive-width (inr (inr (inl e))) = omega arith
-positive-width (inr (inr (inr e))) = omega arith
-
 pub width-pos : (code : ℕ) → code < 10 → 0 < width (kindOf code)
 width-pos code h = positive-width (listed-width code h)
 
@@ -49,9 +44,5 @@ width-bits code = go (ltb code 4) (ltb code 8) (eqb code 8)
     go false false false = refl
 
 -- so the patterns of the bytes are those of the bits
-pub byte-patterns : (m : ℕ) → 256 ^ m ≡ 2 ^ (8 * m)
-byte-patterns zero = refl
-byte-patterns (suc m) = pow-suc 256 m ∙ ap (λ (z : ℕ). z * 256) (byte-patterns m) ∙ sym (pow-add 2 (8 * m) 8) ∙ ap (λ (z : ℕ). 2 ^ z) (omega arith)
-
 pub kind-fits : (code : ℕ) → 256 ^ width (kindOf code) ≡ 2 ^ bits (kindOf code)
 kind-fits code = byte-patterns (width (kindOf code)) ∙ ap (λ (z : ℕ). 2 ^ z) (width-bits code)

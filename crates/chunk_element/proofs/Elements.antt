@@ -5,6 +5,7 @@ use Prim.Native.Nat.{ℕ, _+_, _*_, _^_, _≤_, _<_}
 use native.Mathlib.Nat.{le-of-eq, lt-of-lt-of-le}
 use lib.ListN.{length}
 use Rattle.bytes_le.specs.Bytes.{Place}
+use Rattle.bytes_le.proofs.Sums.{byte-patterns}
 use Rattle.patterns.specs.Kind.{Kind, bits, integer}
 use Rattle.patterns.specs.Value.{valueOf}
 use Rattle.patterns.specs.Pattern.{asF64}
@@ -20,7 +21,6 @@ use Rattle.kinds.specs.declared.Answer.the-variants.{Converted}
 use Rattle.cast_spec.specs.Element.{foundOr, lookupOf, outcomeOf}
 use Rattle.cast_spec.specs.Chunk.{answerNext, entriesFrom}
 use Rattle.cast_spec.proofs.Steps.{no-map}
-use Rattle.cast_spec.proofs.Widths.{byte-patterns}
 use Rattle.mapping.specs.Map.{MapBytes}
 use Rattle.cast_spec.specs.Fit.{filled, fitOf, unmapped}
 use Rattle.element.specs.Element.{FormatPattern}

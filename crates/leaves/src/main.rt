@@ -1,8 +1,9 @@
 // The functions below the chunk call on the samples and on the ends of each kind: a line names the function and has what it was given and what it
 // answered, in hexadecimal.
 ghost use mathlib.Core.Path.{_≡_};
-ghost use Prim.Native.Nat.{_<_, _≤_, _+_};
+ghost use Prim.Native.Nat.{_<_, _≤_, _+_, _*_};
 ghost use lib.ListN.{length};
+ghost use Rattle.bytes_le.specs.Bytes.{Width};
 ghost use Rattle.integers.specs.Magnitude.{IntegerPattern};
 ghost use Rattle.integers.specs.Precision.{Precision};
 use counts::Fared;
@@ -43,17 +44,26 @@ fn sign(negative: bool) {
 
 // ---- bytes
 
-// The eight bytes of x, and what is read of the first one, two, four and eight.
+// The first n elements of `width` bytes.
+fn elements(s: &[u8], n: usize, width: usize)
+    requires { ⌜ Width width × (n * width ≤ length (now s)) ⌝ }
+{
+    for i in 0..n {
+        number(bytes_le::fetch(s, i, width), 2 * width);
+    }
+}
+
+// The eight bytes of x, as elements of one, two, four and eight bytes.
 fn bytes(s: &mut [u8], x: u64)
     requires { ⌜ length (now s) ≡ 8 ⌝ }
     ensures { λ _. ⌜ length (now (s .exit)) ≡ 8 ⌝ }
 {
     text(b"bytes");
-    bytes_le::put8(s, x);
-    number(bytes_le::get1(&s[0..1]), 2);
-    number(bytes_le::get2(&s[0..2]), 4);
-    number(bytes_le::get4(&s[0..4]), 8);
-    number(bytes_le::get8(&s[0..8]), 16);
+    put(s, 0, x);
+    elements(s, 8, 1);
+    elements(s, 4, 2);
+    elements(s, 2, 4);
+    elements(s, 1, 8);
     end();
 }
 
@@ -426,8 +436,7 @@ fn put(d: &mut [u8], at: usize, x: u64)
     requires { ⌜ at + 8 ≤ length (now d) ⌝ }
     ensures { λ _. ⌜ length (now (d .exit)) ≡ length (now (d .entry)) ⌝ }
 {
-    let end = at + 8;
-    bytes_le::put8(&mut d[at..end], x);
+    bytes_le::write_le(d, at, 8, x);
 }
 
 // 255 to 1, 0 to 2, 255 to 3

@@ -1,6 +1,5 @@
 -- The chunk call into a lent buffer, and its report.
 use mathlib.Core.Path.{_≡_, sym, ap, ap₂, subst, _∙_}
-use mathlib.Core.Logic.{⊎-elim}
 use mathlib.Core.List.{List, _++_}
 use Prim.Native.Nat.{ℕ, _+_, _*_, _/_, _≤_, _<_}
 use native.Mathlib.Nat.{le-of-eq, le-trans, mul-le-mul, div-le-self}
@@ -23,13 +22,11 @@ use Rattle.report.specs.Report.{report}
 use Rattle.report.specs.Room.{ReportFits}
 use Rattle.listing.specs.Listing.{reportOf, chunkOf}
 use Rattle.bytes_le.specs.Bytes.{Width}
+use Rattle.bytes_le.proofs.Widths.{width-most}
 use Rattle.listing.specs.Layouts.{CallFits}
 use Rattle.listing.proofs.Unchanged.{position-counted, same-report}
 
 -- ---- the widths of listed kinds
-width-most : {w : ℕ} → Width w → w ≤ 8
-width-most {w} h = ⊎-elim (λ (e : w ≡ 1). omega arith) (⊎-elim (λ (e : w ≡ 2). omega arith) (⊎-elim (λ (e : w ≡ 4). omega arith) (λ (e : w ≡ 8). omega arith))) h
-
 module _ (code : ℕ) (listed : code < 10) (row : KindRow) (is : row ≡ rowOf (kindOf code)) where
   pub row-listed : Width (row .bytes)
   row-listed = subst Width (sym (row-width (kindOf code) row is)) (listed-width code listed)

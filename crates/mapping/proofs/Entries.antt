@@ -3,30 +3,27 @@ use mathlib.Core.Path.{_≡_, sym, ap, ap₂, subst, _∙_}
 use mathlib.Core.Bool.{Bool, true, false, cond}
 use mathlib.Core.List.{List}
 use Prim.Native.Nat.{ℕ, suc, _+_, _-_, _*_, _^_, _≤_, _<_}
-use native.Mathlib.Nat.{mul-le-mul-right, sub-eq-zero-of-le, sub-zero}
+use native.Mathlib.Nat.{le-of-eq, sub-eq-zero-of-le, sub-zero}
 use native.Mathlib.Numerals.{add-one}
 use native.Mathlib.Omega.{arith}
-use lib.ListN.{length}
-use Rattle.bytes_le.specs.Bytes.{patternAt, Width, Place}
+use Rattle.bytes_le.specs.Bytes.{patternAt, Place}
+use Rattle.bytes_le.proofs.Sums.{byte-patterns}
+use Rattle.bytes_le.proofs.Widths.{element-place}
 use Rattle.patterns.specs.Kind.{Kind}
 use Rattle.patterns.specs.Value.{valueOf}
 use Rattle.kinds.specs.declared.Lookup.{Lookup}
 use Rattle.kinds.specs.declared.Lookup.the-variants.{Found, Missing}
 use Rattle.cast_spec.specs.Element.{matches, lookupOf}
 use Rattle.cast_spec.specs.Chunk.{entriesFrom}
-use Rattle.cast_spec.proofs.Widths.{byte-patterns}
 use Rattle.mapping.specs.Map.{MapBytes}
 
 -- ---- the entry at j lies within the bytes of n entries
-place : (s : List ℕ) (w n j : ℕ) → Width w → length s ≡ n * w → j < n → Place s (j * w) w
-place s w n j width e h = record { width = width; within = omega (arith, mul-le-mul-right w h) }
-
 module _ {bits b : ℕ} {keys targets : List ℕ} {n sw dw : ℕ} (M : MapBytes bits b keys targets n sw dw) where
   pub key-place : {j : ℕ} → j < n → Place keys (j * sw) sw
-  key-place {j} h = place keys sw n j (M .key-width) (M .whole-keys) h
+  key-place {j} h = element-place keys sw n j (M .key-width) (le-of-eq (sym (M .whole-keys))) h
 
   pub target-place : {j : ℕ} → j < n → Place targets (j * dw) dw
-  target-place {j} h = place targets dw n j (M .target-width) (M .whole-targets) h
+  target-place {j} h = element-place targets dw n j (M .target-width) (le-of-eq (sym (M .whole-targets))) h
 
   pub key-fits : {key : ℕ} → key < 256 ^ sw → key < 2 ^ bits
   key-fits {key} h = subst (λ (z : ℕ). key < z) (byte-patterns sw ∙ ap (λ (z : ℕ). 2 ^ z) (M .key-bits)) h

@@ -1,8 +1,7 @@
 // The scalar map: a lookup over lent key and target bytes.
 ghost use mathlib.Core.Path.{_≡_};
 ghost use mathlib.Core.Bool.{Bool};
-ghost use Prim.Native.Nat.{ℕ, _*_, _<_, _^_};
-ghost use Rattle.bytes_le.specs.Bytes.{Place, patternAt};
+ghost use Prim.Native.Nat.{ℕ, _*_};
 ghost use Rattle.patterns.specs.Kind.{integer, binary, bits};
 ghost use Rattle.patterns.specs.Value.{valueOf};
 ghost use Rattle.kinds.specs.Row.{floatOf, FloatRow};
@@ -30,14 +29,6 @@ pub fn matches_float(a: u64, key: u64, p: u32, w: u32) -> bool
     (x | k) == 0
 }
 
-// The pattern of the element at the position j of a chunk s of elements of w bytes.
-fn pattern_at(s: &[u8], j: usize, w: usize) -> u64
-    requires { ⌜ Place (now s) (j * w) w ⌝ }
-    ensures { λ r. ⌜ (r ≡ patternAt w (now (s .entry)) j) × (r < 256 ^ w) ⌝ }
-{
-    bytes_le::read_le(s, j * w, w)
-}
-
 // The target of the first of n entries whose key matches the float b; sw and dw are the bytes of a key and of a target.
 pub fn apply_scalar_map_float(
     b: u64,
@@ -53,9 +44,9 @@ pub fn apply_scalar_map_float(
 {
     let mut j: usize = 0;
     while j < n {
-        let key = pattern_at(keys, j, sw);
+        let key = bytes_le::fetch(keys, j, sw);
         if matches_float(b, key, format.precision, format.exponent_bits) {
-            return Lookup::Found(pattern_at(targets, j, dw));
+            return Lookup::Found(bytes_le::fetch(targets, j, dw));
         }
         j += 1;
     }
@@ -76,9 +67,9 @@ pub fn apply_scalar_map_int(
 {
     let mut i: usize = 0;
     while i < n {
-        let key = pattern_at(keys, i, sw);
+        let key = bytes_le::fetch(keys, i, sw);
         if b == key {
-            return Lookup::Found(pattern_at(targets, i, dw));
+            return Lookup::Found(bytes_le::fetch(targets, i, dw));
         }
         i += 1;
     }

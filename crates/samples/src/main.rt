@@ -69,7 +69,7 @@ fn sample(x: u64, sw: usize, dw: usize, from: u8, to: u8, rounding: u8, range: u
     requires { ⌜ (sw ≤ 8) × (dw ≤ 8) ⌝ }
 {
     let mut s = [0u8; 8];
-    bytes_le::put8(&mut s, x);
+    put(&mut s, 0, x);
     let mut d = [0xaau8; 8];
     call(&s, &mut d, sw, dw, from, to, rounding, range);
 }
@@ -128,8 +128,7 @@ fn put(d: &mut [u8], at: usize, x: u64)
     requires { ⌜ at + 8 ≤ length (now d) ⌝ }
     ensures { λ _. ⌜ length (now (d .exit)) ≡ length (now (d .entry)) ⌝ }
 {
-    let end = at + 8;
-    bytes_le::put8(&mut d[at..end], x);
+    bytes_le::write_le(d, at, 8, x);
 }
 
 // 14. Map NaN to 9, 0 to 7, 0 to 8: -0 gives 7.
@@ -138,7 +137,7 @@ fn mapped() {
     put(&mut keys, 0, 0x7ff8000000000000);
     let targets = [9, 7, 8];
     let mut s = [0u8; 8];
-    bytes_le::put8(&mut s, 0x8000000000000000);
+    put(&mut s, 0, 0x8000000000000000);
     let mut d = [0xaau8; 1];
     let r = chunk::convert(&s, &mut d, &keys, &targets, 9, 4, 0, 0);
     print_reply(r, &d);

@@ -11,12 +11,12 @@ use Rattle.chunk_element.proofs.fit_at.Statement.{statement}
 use Rattle.chunk_element.proofs.fit_at.Tie as tie
 
 steps-requires : tie.Need-steps-requires
-steps-requires c κs = let t = c .before .before .before .before in let a = t .args in record { map = t .pre .map; fits = pattern-fits (a .s) (t .pre .map .ready) (c .read-le .result) (c .read-le .ensures .1) }
+steps-requires c κs = let t = c .before .before .before .before in let a = t .args in record { map = t .pre .map; fits = pattern-fits (a .s) (t .pre .map .ready) (c .read-le .result) (c .read-le .ensures .fits) }
 
 returns : tie.Need-returns
 returns c =
     let a = c .before .before .before .before .before .args in
-    c .steps .ensures ∙ ap (λ (z : ℕ). fitOf (outcomeOf (settingsFor (a .s) (now (a .keys)) (now (a .targets))) z)) (c .before .read-le .ensures .0)
+    c .steps .ensures ∙ ap (λ (z : ℕ). fitOf (outcomeOf (settingsFor (a .s) (now (a .keys)) (now (a .targets))) z)) (c .before .read-le .ensures .pattern)
 
 pub fit-at-spec : {M : Type 1} → statement M
 fit-at-spec = tie.close (tie.spec (λ c κs. search needs) steps-requires returns)

@@ -19,14 +19,14 @@ outcome-requires c κs =
     let t = c .before .before in
     let a = t .args in
     let r = t .pre .ready in
-    (format-pattern (a .s .source) (c .read-le .result) (r .source-row) (pattern-fits (a .s) r (c .read-le .result) (c .read-le .ensures .1)), r .target-row)
+    (format-pattern (a .s .source) (c .read-le .result) (r .source-row) (pattern-fits (a .s) r (c .read-le .result) (c .read-le .ensures .fits)), r .target-row)
 
 returns : tie.Need-returns
 returns c =
     let a = c .before .before .before .before .args in
     c .refusal .ensures .answer
     ∙ ap (λ (o : Outcome). answerNext o (a .position) Converted) (c .before .outcome .ensures)
-    ∙ ap (λ (x : ℕ). refusedAnswer (a .s) x (a .position) (a .r)) (c .before .before .read-le .ensures .0)
+    ∙ ap (λ (x : ℕ). refusedAnswer (a .s) x (a .position) (a .r)) (c .before .before .read-le .ensures .pattern)
 
 pub refused-at-spec : {M : Type 1} → statement M
 refused-at-spec = tie.close (tie.spec read-le-requires outcome-requires (λ c κs. search needs) returns)

@@ -18,7 +18,7 @@ small c =
     let x = c .before .before .before .row-of in
     let y = c .before .row-of2 in
     let e = c .read-le in
-    (keys-small s (t .pre) (x .result) (y .result) (e .result) (x .ensures) (y .ensures) (e .ensures .0) (e .ensures .1), targets-small s (t .pre) (x .result) (y .result) (e .result) (x .ensures) (y .ensures) (e .ensures .0) (e .ensures .1))
+    (keys-small s (t .pre) (x .result) (y .result) (e .result) (x .ensures) (y .ensures) (e .ensures .pattern) (e .ensures .fits), targets-small s (t .pre) (x .result) (y .result) (e .result) (x .ensures) (y .ensures) (e .ensures .pattern) (e .ensures .fits))
 
 mul-targets : tie.Need-mul-targets
 mul-targets c = record { fits = omega (arith, small c) }
@@ -39,7 +39,7 @@ returns c =
     let x = c .before .before .before .row-of in
     let y = c .before .row-of2 in
     let e = c .read-le in
-    laid-out s (t .pre) (x .result) (y .result) (e .result) (x .ensures) (y .ensures) (e .ensures .0) (e .ensures .1)
+    laid-out s (t .pre) (x .result) (y .result) (e .result) (x .ensures) (y .ensures) (e .ensures .pattern) (e .ensures .fits)
 
 pub layout-of-spec : {M : Type 1} → statement M
 layout-of-spec = tie.close (tie.spec (λ c. search needs) (λ c κs. search needs) (λ c. search needs) (λ c κs. search needs) read-le-requires mul-targets add-targets mul-t11 add-t12 returns)

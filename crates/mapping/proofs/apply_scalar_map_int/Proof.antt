@@ -6,7 +6,7 @@ use lib.Dec.{eqb}
 use borrow.Author.Needs.{needs}
 use borrow.Author.Tests.{eq-eqb, ne-eqb}
 use Rattle.patterns.specs.Kind.{integer}
-use Rattle.cast_spec.proofs.Widths.{positive-width}
+use Rattle.bytes_le.proofs.Widths.{positive-width}
 use Rattle.mapping.proofs.Entries.{Matched, Passed, none-passed, all-passed, key-place, target-place, key-fits, found, passed}
 use Rattle.mapping.proofs.Integers.{integers-match}
 use Rattle.mapping.proofs.apply_scalar_map_int.Statement.{statement}
@@ -18,17 +18,17 @@ Inv-loop b keys targets n sw dw i₀ i = (signed : Bool) → Passed (integer sig
 abbrev μ-loop : tie.MeasureT-loop
 μ-loop b keys targets n sw dw i₀ i = n - i
 
-pattern-at-requires : tie.Need-pattern-at-requires Inv-loop μ-loop
-pattern-at-requires c κs = let t = c .before .before .before .before in key-place (t .pre) (c .loop-test .taken)
+fetch-requires : tie.Need-fetch-requires Inv-loop μ-loop
+fetch-requires c κs = let t = c .before .before .before .before in key-place (t .pre) (c .loop-test .taken)
 
 -- whether b is the pattern that was read
-tested : (c : tie.After-pattern-at Inv-loop μ-loop) (signed : Bool) → let a = c .before .before .before .before .before .args in Matched (integer signed (8 * a .sw)) (a .b) (c .pattern-at .result) (eqb (a .b) (c .pattern-at .result))
+tested : (c : tie.After-fetch Inv-loop μ-loop) (signed : Bool) → let a = c .before .before .before .before .before .args in Matched (integer signed (8 * a .sw)) (a .b) (c .fetch .result) (eqb (a .b) (c .fetch .result))
 tested c signed =
     let t = c .before .before .before .before .before in
-    integers-match signed (8 * t .args .sw) (t .args .b) (c .pattern-at .result) (omega (arith, positive-width (t .pre .key-width))) (t .pre .fits) (key-fits (t .pre) (c .pattern-at .ensures .1))
+    integers-match signed (8 * t .args .sw) (t .args .b) (c .fetch .result) (omega (arith, positive-width (t .pre .key-width))) (t .pre .fits) (key-fits (t .pre) (c .fetch .ensures .fits))
 
-pattern-at-requires-2 : tie.Need-pattern-at-requires-2 Inv-loop μ-loop
-pattern-at-requires-2 c κs =
+fetch-requires-2 : tie.Need-fetch-requires-2 Inv-loop μ-loop
+fetch-requires-2 c κs =
     let l = c .before .before in
     let t = l .before .before .before .before in
     target-place (t .pre) (l .loop-test .taken)
@@ -37,16 +37,16 @@ returns : tie.Need-returns Inv-loop μ-loop
 returns c signed =
     let k = c .before .before in
     let l = k .before in
-    found (l .before .loop .inv signed) (l .loop-test .taken) (k .pattern-at .ensures .0) (tested k signed) (eq-eqb _ _ (c .before .if1 .taken)) (c .pattern-at2 .ensures .0)
+    found (l .before .loop .inv signed) (l .loop-test .taken) (k .fetch .ensures .pattern) (tested k signed) (eq-eqb _ _ (c .before .if1 .taken)) (c .fetch2 .ensures .pattern)
 
 loop-again : tie.Need-loop-again Inv-loop μ-loop
 loop-again c signed =
     let k = c .before in
     let l = k .before in
-    passed (l .before .loop .inv signed) (l .loop-test .taken) (k .pattern-at .ensures .0) (tested k signed) (ne-eqb _ _ (c .if1 .left))
+    passed (l .before .loop .inv signed) (l .loop-test .taken) (k .fetch .ensures .pattern) (tested k signed) (ne-eqb _ _ (c .if1 .left))
 
 returns-2 : tie.Need-returns-2 Inv-loop μ-loop
 returns-2 c signed = all-passed (c .before .loop .inv signed) (c .loop-test .left)
 
 pub apply-scalar-map-int-spec : {M : Type 1} → statement M
-apply-scalar-map-int-spec = tie.close (tie.spec Inv-loop μ-loop (λ c signed. none-passed) pattern-at-requires pattern-at-requires-2 returns (λ c. search needs) (λ c. search needs) loop-again returns-2)
+apply-scalar-map-int-spec = tie.close (tie.spec Inv-loop μ-loop (λ c signed. none-passed) fetch-requires fetch-requires-2 returns (λ c. search needs) (λ c. search needs) loop-again returns-2)

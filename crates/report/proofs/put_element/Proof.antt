@@ -20,7 +20,7 @@ returns c =
     let x = c .before .before .before .before .before .before in
     let t = c .before .before .before .before .before .before .before .before .before .before .before in
     let a = t .args in
-    line-told (now (a .out)) (a .at) (a .w) (x .before .before .read-le .result) (x .put-digits .result) (x .put-digits .last .0) (fromLe (take (a .w) (drop (a .from) (now (a .bytes))))) (z .put-byte .result) (z .put-byte .last .0) (x .before .before .read-le .ensures .0) (x .put-digits .ensures) (z .put-byte .ensures)
+    line-told (now (a .out)) (a .at) (a .w) (x .before .before .read-le .result) (x .put-digits .result) (x .put-digits .last .0) (fromLe (take (a .w) (drop (a .from) (now (a .bytes))))) (z .put-byte .result) (z .put-byte .last .0) (x .before .before .read-le .ensures .pattern) (x .put-digits .ensures) (z .put-byte .ensures)
 
 pub put-element-spec : {M : Type 1} → statement M
 put-element-spec = tie.close (tie.spec (λ c κs. search needs) (λ c. search needs) (λ c κs. search needs) put-byte-requires (λ c. search needs) returns)

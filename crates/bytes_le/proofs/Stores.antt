@@ -1,0 +1,49 @@
+-- A store: bytes that are put one by one, from the lowest up, are the bytes of the number.
+use mathlib.Core.Path.{_≡_, refl, sym, ap, ap₂, _∙_}
+use mathlib.Core.List.{List, _∷_, _++_, append-assoc}
+use Prim.Native.Nat.{ℕ, suc, _+_, _*_, _/_, _%_, _^_, _≤_, _<_}
+use native.Mathlib.Nat.{add-zero}
+use native.Mathlib.Omega.{arith}
+use lib.ListN.{length, getD, set, take, drop, length-append, length-set, take-append-drop}
+use lib.Seq.{append-snoc, drop-cons, length-take-le, set-at}
+use Rattle.bytes_le.specs.Bytes.{toLe, put}
+use Rattle.bytes_le.proofs.Sums.{byte-patterns, length-toLe, toLe-split}
+
+-- the lowest k of w bytes of v are put at the place a of d, which is d′ now
+pub record Stored (d : List ℕ) (a w v k : ℕ) (d′ : List ℕ) : Type 0 where
+  pub order : k ≤ w
+  pub same : length d′ ≡ length d
+  pub is : d′ ≡ put d a k v
+
+module _ (d : List ℕ) (a w v : ℕ) where
+  pub none-stored : Stored d a w v 0 d
+  none-stored = record { order = omega arith; same = refl; is = sym (take-append-drop a d) ∙ ap (λ (n : ℕ). take a d ++ drop n d) (sym (add-zero a)) }
+
+  module _ (k : ℕ) (d′ : List ℕ) (so-far : Stored d a w v k d′) where
+    pub all-stored : w ≤ k → d′ ≡ put d a w v
+    all-stored done = let e : k ≡ w = omega (arith, so-far .order) in so-far .is ∙ ap (λ (n : ℕ). put d a n v) e
+
+    pub one-more-stored : k < w → a + w ≤ length d → Stored d a w v (k + 1) (set d′ (a + k) (v / 2 ^ (8 * k) % 256))
+    one-more-stored more room = record {
+      order = omega arith;
+      same = length-set d′ (a + k) _ ∙ so-far .same;
+      is = ap₂ (λ (l : List ℕ) (p : ℕ). set l (a + k) (v / p % 256)) (so-far .is ∙ split) (sym (byte-patterns k)) ∙ set-at front (getD d (a + k) 0) (drop (suc (a + k)) d) (v / 256 ^ k % 256) (a + k) long ∙ joined;
+    }
+      where
+        front : List ℕ
+        front = take a d ++ toLe k v
+
+        long : length front ≡ a + k
+        long = length-append (take a d) (toLe k v) ∙ ap₂ (λ (x y : ℕ). x + y) (length-take-le a d (omega arith)) (length-toLe k v)
+
+        split : put d a k v ≡ front ++ getD d (a + k) 0 ∷ drop (suc (a + k)) d
+        split = sym (append-assoc (take a d) (toLe k v) (drop (a + k) d)) ∙ ap (λ (l : List ℕ). front ++ l) (drop-cons d (a + k) 0 (omega arith))
+
+        joined : front ++ v / 256 ^ k % 256 ∷ drop (suc (a + k)) d ≡ put d a (k + 1) v
+        joined =
+            append-assoc (take a d) (toLe k v) (v / 256 ^ k % 256 ∷ drop (suc (a + k)) d)
+            ∙ ap (λ (l : List ℕ). take a d ++ l) (sym (append-snoc (toLe k v) (v / 256 ^ k % 256) (drop (suc (a + k)) d)))
+            ∙ ap₂ (λ (l : List ℕ) (n : ℕ). take a d ++ (l ++ drop n d)) (toLe-split k 1 v) (next a k)
+          where
+            next : (a k : ℕ) → suc (a + k) ≡ a + (k + 1)
+            next a k = omega arith

@@ -1,0 +1,26 @@
+-- The widths of the kinds, and the places of the elements of a chunk.
+use mathlib.Core.Path.{_≡_}
+use mathlib.Core.List.{List}
+use mathlib.Core.Logic.{⊎-elim}
+use Prim.Native.Nat.{ℕ, _*_, _≤_, _<_}
+use native.Mathlib.Nat.{mul-le-mul-right}
+use native.Mathlib.Omega.{arith}
+use lib.ListN.{length}
+use Rattle.bytes_le.specs.Bytes.{Place, Width}
+
+-- one of four
+by-width : {w : ℕ} (P : Type 0) → (w ≡ 1 → P) → (w ≡ 2 → P) → (w ≡ 4 → P) → (w ≡ 8 → P) → Width w → P
+by-width P a b c d = ⊎-elim a (⊎-elim b (⊎-elim c d))
+
+pub last-width : {w : ℕ} → Width w → (w ≡ 1 → ⊥) → (w ≡ 2 → ⊥) → (w ≡ 4 → ⊥) → w ≡ 8
+last-width {w} s a b c = by-width (w ≡ 8) (λ e. absurd (a e)) (λ e. absurd (b e)) (λ e. absurd (c e)) (λ e. e) s
+
+pub positive-width : {w : ℕ} → Width w → 0 < w
+positive-width {w} = by-width (0 < w) (λ e. omega arith) (λ e. omega arith) (λ e. omega arith) (λ e. omega arith)
+
+pub width-most : {w : ℕ} → Width w → w ≤ 8
+width-most {w} = by-width (w ≤ 8) (λ e. omega arith) (λ e. omega arith) (λ e. omega arith) (λ e. omega arith)
+
+-- the element at i of n lies within the chunk
+pub element-place : (s : List ℕ) (w n i : ℕ) → Width w → n * w ≤ length s → i < n → Place s (i * w) w
+element-place s w n i width whole h = record { width = width; within = omega (arith, mul-le-mul-right w h) }
