@@ -8,7 +8,8 @@ use native.Mathlib.Omega.{arith}
 use lib.ListN.{length, getD, take, drop, length-drop}
 use lib.Pow.{pow-mono, shl-exact}
 use lib.Seq.{getD-drop, length-take-le, take-suc}
-use Rattle.bytes_le.specs.Bytes.{fromLe, toLe, patternAt, sumAt, Fetched}
+use Rattle.bytes_le.specs.Bytes.{fromLe, toLe, patternAt}
+use Rattle.bytes_le.specs.Fetch.{sumAt, Fetched}
 use Rattle.bytes_le.proofs.Sums.{byte-patterns, fromLe-append, fromLe-cons, fromLe-toLe-fits}
 use Rattle.bytes_le.proofs.Unique.{AreBytes, append-bytes, drop-bytes, take-bytes, toLe-fromLe}
 
@@ -16,14 +17,14 @@ use Rattle.bytes_le.proofs.Unique.{AreBytes, append-bytes, drop-bytes, 
 one-byte-more : (s : List ℕ) (a k : ℕ) → a + suc k ≤ length s → take (suc k) (drop a s) ≡ take k (drop a s) ++ (getD s (a + k) 0 ∷ [])
 one-byte-more s a k h = take-suc (drop a s) k 0 (subst (λ (z : ℕ). k < z) (sym (length-drop a s)) (omega arith)) ∙ ap (λ (b : ℕ). take k (drop a s) ++ (b ∷ [])) (getD-drop a s k 0)
 
-bytes-from : (s : List ℕ) (a w : ℕ) → a + w ≤ length s → length (take w (drop a s)) ≡ w
-bytes-from s a w h = length-take-le w (drop a s) (subst (λ (z : ℕ). w ≤ z) (sym (length-drop a s)) (omega arith))
+length-from : (s : List ℕ) (a w : ℕ) → a + w ≤ length s → length (take w (drop a s)) ≡ w
+length-from s a w h = length-take-le w (drop a s) (subst (λ (z : ℕ). w ≤ z) (sym (length-drop a s)) (omega arith))
 
 -- ---- the sum by index is the number of the bytes, of any width
 pub sum-is-number : (s : List ℕ) (a w : ℕ) → a + w ≤ length s → sumAt s a w ≡ fromLe (take w (drop a s))
 sum-is-number s a zero h = refl
 sum-is-number s a (suc k) h =
-    ap₂ (λ (x y : ℕ). x + y) (sum-is-number s a k (omega arith)) (mul-comm b (256 ^ k) ∙ ap₂ (λ (n x : ℕ). 256 ^ n * x) (sym (bytes-from s a k (omega arith))) (alone b))
+    ap₂ (λ (x y : ℕ). x + y) (sum-is-number s a k (omega arith)) (mul-comm b (256 ^ k) ∙ ap₂ (λ (n x : ℕ). 256 ^ n * x) (sym (length-from s a k (omega arith))) (alone b))
     ∙ sym (fromLe-append (take k (drop a s)) (b ∷ []))
     ∙ ap fromLe (sym (one-byte-more s a k h))
   where
@@ -46,7 +47,7 @@ sum-is-fetched s a w r h bytes e = record { sum = e; pattern = is; fits = below;
     is = e ∙ sum-is-number s a w h
 
     long : length (take w (drop a s)) ≡ w
-    long = bytes-from s a w h
+    long = length-from s a w h
 
     below : r < 256 ^ w
     below = subst (λ (z : ℕ). z < 256 ^ w) (sym is) (subst (λ (n : ℕ). fromLe (take w (drop a s)) < 256 ^ n) long (number-below (take w (drop a s)) bytes))

@@ -1,15 +1,32 @@
--- A store: bytes that are put one by one, from the lowest up, are the bytes of the number.
-use mathlib.Core.Path.{_≡_, refl, sym, ap, ap₂, _∙_}
+-- A store: bytes that are put one by one, from the lowest up, are the bytes of the number, and what is put is fetched again.
+use mathlib.Core.Path.{_≡_, refl, sym, ap, ap₂, subst, _∙_}
 use mathlib.Core.List.{List, _∷_, _++_, append-assoc}
-use Prim.Native.Nat.{ℕ, suc, _+_, _*_, _/_, _%_, _^_, _≤_, _<_}
-use native.Mathlib.Nat.{add-zero}
+use Prim.Native.Nat.{ℕ, zero, suc, _+_, _*_, _/_, _%_, _^_, _≤_, _<_}
+use native.Mathlib.Nat.{add-zero, mod-lt, zero-lt-suc}
 use native.Mathlib.Omega.{arith}
-use lib.ListN.{length, getD, set, take, drop, length-append, length-set, take-append-drop}
-use lib.Seq.{append-snoc, drop-cons, length-take-le, set-at}
-use Rattle.bytes_le.specs.Bytes.{toLe, put}
-use Rattle.bytes_le.proofs.Sums.{byte-patterns, length-toLe, toLe-split}
+use lib.ListN.{length, getD, set, take, drop, length-append, length-drop, length-set, length-take, take-append-drop}
+use lib.Seq.{append-snoc, drop-at, drop-cons, length-take-le, set-at, take-at}
+use Rattle.bytes_le.specs.Bytes.{fromLe, toLe, put}
+use Rattle.bytes_le.specs.Fetch.{Fetched}
+use Rattle.bytes_le.proofs.Fetches.{sum-is-fetched, sum-is-number}
+use Rattle.bytes_le.proofs.Sums.{byte-patterns, fromLe-toLe-fits, length-toLe, toLe-split}
+use Rattle.bytes_le.proofs.Unique.{AreBytes}
 
--- the lowest k of w bytes of v are put at the place a of d, which is d′ now
+-- ---- what is put is fetched again
+toLe-bytes : (n v : ℕ) → AreBytes (toLe n v)
+toLe-bytes zero v = tt
+toLe-bytes (suc n) v = (mod-lt v (zero-lt-suc 255), toLe-bytes n (v / 256))
+
+pub put-is-fetched : (d : List ℕ) (a w v : ℕ) → a + w ≤ length d → v < 256 ^ w → Fetched (put d a w v) a w v
+put-is-fetched d a w v room small = sum-is-fetched (put d a w v) a w v within (subst AreBytes (sym here) (toLe-bytes w v)) (sym (sum-is-number (put d a w v) a w within ∙ ap fromLe here ∙ fromLe-toLe-fits w v small))
+  where
+    here : take w (drop a (put d a w v)) ≡ toLe w v
+    here = ap (take w) (drop-at (take a d) (toLe w v ++ drop (a + w) d) a (length-take-le a d (omega arith))) ∙ take-at (toLe w v) (drop (a + w) d) w (length-toLe w v)
+
+    within : a + w ≤ length (put d a w v)
+    within = simp (length-append, length-take, length-toLe, length-drop) (omega arith)
+
+-- ---- the loop: the lowest k of w bytes of v are put at the place a of d, which is d′ now
 pub record Stored (d : List ℕ) (a w v k : ℕ) (d′ : List ℕ) : Type 0 where
   pub order : k ≤ w
   pub same : length d′ ≡ length d

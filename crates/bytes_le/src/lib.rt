@@ -3,7 +3,8 @@
 ghost use mathlib.Core.Path.{_≡_};
 ghost use Prim.Native.Nat.{_+_, _*_, _≤_};
 ghost use lib.ListN.{length};
-ghost use Rattle.bytes_le.specs.Bytes.{Fetched, Place, put};
+ghost use Rattle.bytes_le.specs.Bytes.{Place, put};
+ghost use Rattle.bytes_le.specs.Fetch.{Fetched};
 
 // ---- reading
 

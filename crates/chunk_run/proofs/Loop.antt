@@ -2,7 +2,7 @@
 use mathlib.Core.Path.{_≡_, refl, sym, ap, subst, _∙_}
 use mathlib.Core.List.{List, _++_}
 use Prim.Native.Nat.{ℕ, _+_, _-_, _*_, _^_, _≤_, _<_}
-use native.Mathlib.Nat.{le-of-eq, le-trans, mul-le-mul-right, sub-zero, suc-mul, zero-mul}
+use native.Mathlib.Nat.{sub-zero, zero-mul}
 use native.Mathlib.Numerals.{add-one}
 use native.Mathlib.Omega.{arith}
 use lib.ListN.{length-append, length-drop, length-set, length-take, length, take, drop}
@@ -28,6 +28,7 @@ use Rattle.cast_spec.specs.Fit.{fitOf}
 use Rattle.cast_spec.specs.Chunk.{answerFrom, answerNext, bytesFrom, convertedOf, countsBelow, Refuses}
 use Rattle.bytes_le.specs.Bytes.{Place, fromLe, patternAt, toLe, put}
 use Rattle.bytes_le.proofs.Sums.{length-toLe}
+use Rattle.bytes_le.proofs.Widths.{element-within}
 use Rattle.cast_spec.proofs.Outcomes.{stored-pattern}
 use Rattle.chunk_element.proofs.Elements.{refused-is, target-place}
 use Rattle.kinds.specs.declared.Answer.the-variants as A
@@ -96,7 +97,7 @@ module _ (S : E.Settings) (sw dw : ℕ) (src dst₀ : List ℕ) (n : ℕ) where
     -- b is put at its place
     module _ (more : i < n) (r : Fit) (is-fit : r ≡ fitOf (outcomeOf S (fromLe (take sw (drop x src))))) (room : n * dw ≤ length dst₀) (b : ℕ) (f : Fared) (e : r ≡ Pattern b f) (dst′ : List ℕ) (stored : dst′ ≡ put dst y dw b) where
       within : i * dw + dw ≤ length dst
-      within = subst (λ (z : ℕ). i * dw + dw ≤ z) (sym (at .same)) (le-trans (le-trans (le-of-eq (sym (suc-mul i dw))) (mul-le-mul-right dw more)) room)
+      within = subst (λ (z : ℕ). i * dw + dw ≤ z) (sym (at .same)) (element-within dw n i room more)
 
       stored-at : dst′ ≡ take (i * dw) dst ++ (toLe dw b ++ drop dw (drop (i * dw) dst))
       stored-at = stored ∙ ap (λ (z : ℕ). put dst z dw b) (at .target) ∙ ap (λ (l : List ℕ). take (i * dw) dst ++ (toLe dw b ++ l)) (sym (drop-drop dw (i * dw) dst))
@@ -130,14 +131,11 @@ module _ (S : E.Settings) (sw dw : ℕ) (src dst₀ : List ℕ) (n : ℕ) where
 
 -- ---- what a turn asks, and that the places stay in the slices
 module _ (s : Settings) (keys targets src dst₀ : List ℕ) (n : ℕ) (ask : RunReady s keys targets src dst₀ n) (i x y : ℕ) (dst t : List ℕ) (k : ℕ) (at : At (settingsFor s keys targets) (s .sw) (s .dw) src dst₀ n i x y dst t k) (more : i < n) where
-  fit : (w l : ℕ) → n * w ≤ l → i * w + w ≤ l
-  fit w l h = le-trans (le-of-eq (sym (suc-mul i w))) (le-trans (mul-le-mul-right w more) h)
-
   pub source-end : x + s .sw ≤ length src
-  source-end = subst (λ (z : ℕ). z + s .sw ≤ length src) (sym (at .source)) (fit (s .sw) (length src) (ask .source))
+  source-end = subst (λ (z : ℕ). z + s .sw ≤ length src) (sym (at .source)) (element-within (s .sw) n i (ask .source) more)
 
   pub target-end : y + s .dw ≤ length dst
-  target-end = subst (λ (z : ℕ). z + s .dw ≤ length dst) (sym (at .target)) (subst (λ (z : ℕ). i * s .dw + s .dw ≤ z) (sym (at .same)) (fit (s .dw) (length dst₀) (ask .target)))
+  target-end = subst (λ (z : ℕ). z + s .dw ≤ length dst) (sym (at .target)) (subst (λ (z : ℕ). i * s .dw + s .dw ≤ z) (sym (at .same)) (element-within (s .dw) n i (ask .target) more))
 
   pub turn-asks : FitReady s keys targets src x
   turn-asks = record { map = ask .map; within = source-end }

@@ -3,11 +3,12 @@ use mathlib.Core.Path.{_≡_, refl, sym, ap, subst, _∙_}
 use mathlib.Core.Bool.{Bool, true, false, cond}
 use mathlib.Core.List.{List, [], _++_, append-assoc, append-nil}
 use Prim.Native.Nat.{ℕ, zero, suc, _+_, _*_, _≤_, _<_}
-use native.Mathlib.Nat.{add-zero, le-refl, le-trans, le-of-eq, mul-le-mul-right, suc-mul, zero-add}
+use native.Mathlib.Nat.{add-zero, le-refl, zero-add}
 use native.Mathlib.Numerals.{add-one}
 use native.Mathlib.Omega.{arith}
 use lib.ListN.{length, take, drop, length-append}
 use Rattle.bytes_le.specs.Bytes.{fromLe, patternAt}
+use Rattle.bytes_le.proofs.Widths.{element-within}
 use Rattle.kinds.specs.Answer.{namesPosition}
 use Rattle.text.specs.Text.{digits, decimal}
 use Rattle.text.specs.Wrote.{Wrote}
@@ -93,11 +94,8 @@ module _ (d : List ℕ) (a : ℕ) (bytes : List ℕ) (w k : ℕ) (ask : LinesFit
     lines-end h = let e : i ≡ k = omega (arith, at .order) in subst (λ (z : ℕ). Wrote d a (lines w bytes 0 z) to d′) e (at .wrote)
 
     module _ (more : i < k) where
-      fit : (l m : ℕ) → k * l ≤ m → i * l + l ≤ m
-      fit l m h = le-trans (le-of-eq (sym (suc-mul i l))) (le-trans (mul-le-mul-right l more) h)
-
       pub from-within : from + w ≤ length bytes
-      from-within = subst (λ (z : ℕ). z + w ≤ length bytes) (sym (at .place)) (fit w (length bytes) (ask .whole))
+      from-within = subst (λ (z : ℕ). z + w ≤ length bytes) (sym (at .place)) (element-within w k i (ask .whole) more)
 
       pub line-asks : LineFits d′ to bytes from w
       line-asks = record {
@@ -106,7 +104,7 @@ module _ (d : List ℕ) (a : ℕ) (bytes : List ℕ) (w k : ℕ) (ask : LinesFit
       }
         where
           room : to + (2 * w + 1) ≤ length d′
-          room = omega (arith, at .same, at .wrote .next, length-lines w bytes 0 i, ask .fits, fit (2 * w + 1) (k * (2 * w + 1)) (le-refl (k * (2 * w + 1))))
+          room = omega (arith, at .same, at .wrote .next, length-lines w bytes 0 i, ask .fits, element-within (2 * w + 1) k i (le-refl (k * (2 * w + 1))) more)
 
       pub lines-go-on : (r : ℕ) (d″ : List ℕ) → Wrote d′ to (line w (fromLe (take w (drop from bytes)))) r d″ → LinesAt d a bytes w k (i + 1) (from + w) r d″
       lines-go-on r d″ v = record {

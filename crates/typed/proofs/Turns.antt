@@ -4,12 +4,13 @@ use mathlib.Core.Bool.{Bool, true, false, cond, _&&_, not, true≢false}
 use mathlib.Core.Path.{_≡_, refl, sym, ap, ap₂, subst, _∙_}
 use Prim.Native.Nat.{ℕ, suc, _+_, _-_, _*_, _/_, _%_, _^_, _≤_, _<_}
 use native.Mathlib.Omega.{arith}
-use native.Mathlib.Nat.{mul-div-cancel, mul-mod-left, le-of-eq, le-trans, mul-le-mul-right, sub-zero, zero-mul, suc-mul}
+use native.Mathlib.Nat.{mul-div-cancel, mul-mod-left, le-of-eq, sub-zero, zero-mul}
 use native.Mathlib.Numerals.{add-one}
 use lib.ListN.{length, getD, take, drop, set, length-set, length-map}
 use lib.Dec.{T, ltb, eqb}
 use borrow.Author.Tests.{lt-ltb, eq-eqb, ltb-true, ltb-false, eqb-true, eqb-false}
 use Rattle.bytes_le.specs.Bytes.{toLe}
+use Rattle.bytes_le.proofs.Widths.{element-within}
 use Rattle.grid.specs.declared.RoundingMode.{RoundingMode}
 use Rattle.patterns.specs.Kind.{bits, width}
 use Rattle.patterns.specs.Value.{valueOf}
@@ -307,7 +308,7 @@ module _ {X Y Z : Type 0} (P : Elements X Y Z) (xs : List X) (ys : List Z) (roun
           next : (x : Outcome) → x ≡ o i → x ≡ outcomeOf S (getD ps i 0) → TalliedBy x ts ts′ → Inv (nextState x ps s) (storedIn read x zs i) ts′
           next (Stored b how) f h t =
               let l : i < length zs = within in
-              let room : i * w + w ≤ length (bytes zs) = le-trans (le-of-eq (sym (suc-mul i w))) (le-trans (mul-le-mul-right w l) (le-of-eq (sym (length-bytes w (map of zs) ∙ ap (λ (n : ℕ). n * w) (length-map zs of))))) in
+              let room : i * w + w ≤ length (bytes zs) = element-within w (length zs) i (le-of-eq (sym (length-bytes w (map of zs) ∙ ap (λ (n : ℕ). n * w) (length-map zs of)))) l in
               at-position s (now .decoded) (i + 1) (set zs i (read b)) ts′ (omega (arith, now .below)) (now .meet) (length-set zs i (read b) ∙ inv .long) (t .six)
               (rw add-one (kept o w (length ps) R W i (bytes zs) (now .run) (now .below) b how (bytes (set zs i (read b))) (sym f) room
               (ap (bytesOf w) (map-set of zs i (read b)) ∙ set-bytes w (map of zs) i (of (read b)) (subst (λ (n : ℕ). i < n) (sym (length-map zs of)) l)

@@ -4,7 +4,7 @@ use Prim.Native.Nat.{ℕ}
 use native.Mathlib.Omega.{arith}
 use denote.Ref.{now}
 use borrow.Author.Needs.{needs}
-use Rattle.bytes_le.specs.Bytes.{Fetched}
+use Rattle.bytes_le.specs.Fetch.{Fetched}
 use Rattle.bytes_le.proofs.Widths.{last-width}
 use Rattle.bytes_le.proofs.read_le.Statement.{statement}
 use Rattle.bytes_le.proofs.read_le.Tie as tie
