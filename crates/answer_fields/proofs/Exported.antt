@@ -2,11 +2,11 @@
 use mathlib.Core.List.{List}
 use mathlib.Core.Path.{_≡_, ap, ap₂, _∙_, subst}
 use Prim.Native.Nat.{ℕ}
-use Rattle.kinds.specs.declared.Answer.{Answer}
+use Rattle.answers.specs.declared.Answer.{Answer}
 use Rattle.counts.specs.declared.Counts.{Counts}
-use Rattle.kinds.specs.declared.Preview.{Preview}
-use Rattle.kinds.specs.declared.Reply.{Reply}
-use Rattle.kinds.specs.Answer.{numberOf}
+use Rattle.answers.specs.declared.Preview.{Preview}
+use Rattle.answers.specs.declared.Reply.{Reply}
+use Rattle.answers.specs.Answer.{numberOf}
 use Rattle.cast_spec.specs.Chunk.{Inputs, callOf, answerOf, destinationOf, resultAt}
 use Rattle.cast_spec.specs.Counted.{Counted}
 use Rattle.cast_spec.specs.Demand1.{Demand1}

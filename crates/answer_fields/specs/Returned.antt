@@ -3,8 +3,8 @@ use mathlib.Core.Path.{_≡_}
 use mathlib.Core.List.{List, [], _∷_, _++_}
 use Prim.Native.Nat.{ℕ}
 use lib.ListN.{length}
-use Rattle.kinds.specs.Answer.{numberOf, valuesOf}
-use Rattle.kinds.specs.declared.Answer.{Answer}
+use Rattle.answers.specs.Answer.{numberOf, valuesOf}
+use Rattle.answers.specs.declared.Answer.{Answer}
 use Rattle.counts.specs.declared.Counts.{Counts}
 use Rattle.cast_spec.specs.Chunk.{Inputs, callOf, answerOf, countsOf, destinationOf, resultAt}
 use Rattle.cast_spec.specs.Counted.{Counted, HowMany}

@@ -1,10 +1,10 @@
 // What an exported call leaves for C and for Rust: the answer's number, and its values and the counts as fields of 64 bits.
 ghost use mathlib.Core.Path.{_≡_};
-ghost use Rattle.kinds.specs.Answer.{numberOf};
+ghost use Rattle.answers.specs.Answer.{numberOf};
 ghost use Rattle.answer_fields.specs.Returned.{valueFields, fieldsOf};
+use answers::Answer;
+use answers::Reply;
 use counts::Counts;
-use kinds::Answer;
-use kinds::Reply;
 
 // The values of an answer: both counts of elements; position, value, lowest and highest of a refused one; 0 where the answer has no such value.
 pub type Values = [u64; 6];
@@ -67,5 +67,5 @@ pub fn answered(r: Reply, answer: &mut Fields) -> u8
     let a = r.answer;
     let c = r.counts;
     *answer = fields(a, c);
-    kinds::number(a)
+    answers::number(a)
 }

@@ -10,13 +10,15 @@ use lib.ListN.{length}
 use borrow.Author.Tests.{eqb-true, eq-eqb, leb-true}
 use Rattle.grid.proofs.Neighbours.{cut}
 use Rattle.patterns.specs.Kind.{isFloat}
-use Rattle.kinds.specs.Answer.{numberOf}
-use Rattle.kinds.specs.Codes.{kindOf, wrapBarred}
-use Rattle.kinds.specs.declared.Answer.{Answer}
-use Rattle.kinds.specs.declared.Answer.the-variants as A
+use Rattle.answers.specs.Answer.{numberOf}
+use Rattle.kinds.specs.Table.{kindOf}
+use Rattle.codes.specs.Codes.{wrapBarred}
+use Rattle.answers.specs.declared.Answer.{Answer}
+use Rattle.answers.specs.declared.Answer.the-variants as A
 use Rattle.counts.specs.declared.Counts.{Counts}
-use Rattle.kinds.proofs.Listed.{float-from-8, listed-kinds}
-use Rattle.kinds.proofs.Numbers.{parts}
+use Rattle.kinds.proofs.Listed.{float-from-8}
+use Rattle.codes.proofs.Listed.{listed-kinds}
+use Rattle.grid.proofs.Tests.{parts}
 use Rattle.cast_spec.specs.Chunk.{Inputs, sw, dw, codesListed, wrapPermitted, mapWhole, bytesWhole, countsMeet, Check, allPass, tested, callOf, outcomeAt, answerFrom, answerOf, bytesFrom, destinationOf, convertedOf, countsBelow, countsOf}
 use Rattle.cast_spec.proofs.Demand1.{demand1}
 

@@ -10,12 +10,12 @@ use lib.Dec.{T, eqb, eqb→eq, ltb, ltb→lt}
 use lib.ListN.{length, drop, length-append, length-drop}
 use Rattle.bytes_le.specs.Bytes.{toLe}
 use Rattle.bytes_le.proofs.Sums.{length-toLe}
-use Rattle.kinds.specs.Answer.{numberOf, namesPosition}
-use Rattle.kinds.proofs.Numbers.{both}
-use Rattle.kinds.specs.declared.Outcome.{Outcome}
-use Rattle.kinds.specs.declared.Outcome.the-variants.{Stored, NanOrInf, OutOfRange, FloatOutOfRange}
-use Rattle.kinds.specs.declared.Answer.{Answer}
-use Rattle.kinds.specs.declared.Answer.the-variants as A
+use Rattle.answers.specs.Answer.{numberOf, namesPosition}
+use Rattle.grid.proofs.Tests.{both}
+use Rattle.answers.specs.declared.Outcome.{Outcome}
+use Rattle.answers.specs.declared.Outcome.the-variants.{Stored, NanOrInf, OutOfRange, FloatOutOfRange}
+use Rattle.answers.specs.declared.Answer.{Answer}
+use Rattle.answers.specs.declared.Answer.the-variants as A
 use Rattle.cast_spec.specs.Chunk.{Inputs, sw, dw, codesListed, wrapPermitted, mapWhole, bytesWhole, countsMeet, Check, checksOf, allPass, tested, callOf, outcomeAt, answerFrom, answerOf, bytesNext, bytesFrom, destinationOf}
 
 -- ---- any checks

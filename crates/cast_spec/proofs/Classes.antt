@@ -23,12 +23,12 @@ use Rattle.patterns.proofs.AnyKind.{sound}
 use Rattle.counts.specs.Counts.{byPick}
 use Rattle.counts.specs.declared.Fared.{Fared}
 use Rattle.counts.specs.declared.Fared.the-variants.{Mapped, Exact, Rounded, Clamped, Wrapped}
-use Rattle.kinds.specs.declared.OutOfRangeMode.{OutOfRangeMode}
-use Rattle.kinds.specs.declared.OutOfRangeMode.the-variants.{None, Clamp, Wrap}
-use Rattle.kinds.specs.declared.Lookup.{Lookup}
-use Rattle.kinds.specs.declared.Lookup.the-variants.{Found, Missing}
-use Rattle.kinds.specs.declared.Outcome.{Outcome}
-use Rattle.kinds.specs.declared.Outcome.the-variants.{Stored}
+use Rattle.codes.specs.declared.OutOfRangeMode.{OutOfRangeMode}
+use Rattle.codes.specs.declared.OutOfRangeMode.the-variants.{None, Clamp, Wrap}
+use Rattle.answers.specs.declared.Lookup.{Lookup}
+use Rattle.answers.specs.declared.Lookup.the-variants.{Found, Missing}
+use Rattle.answers.specs.declared.Outcome.{Outcome}
+use Rattle.answers.specs.declared.Outcome.the-variants.{Stored}
 use Rattle.cast_spec.specs.Element.{Entry, Settings, matches, lookupOf, foundOr, inRange, beyond, converted, outcomeOf}
 use Rattle.cast_spec.specs.Chunk.{Call, outcomeAt}
 use Rattle.cast_spec.specs.Counted.{Matched, Carried, Picks, Fares, valueAt}

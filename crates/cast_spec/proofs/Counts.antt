@@ -8,14 +8,14 @@ use native.Mathlib.Omega.{arith}
 use lib.Dec.{T, eqb}
 use borrow.Author.Tests.{eqb-true, eqb-false}
 use Rattle.patterns.specs.Kind.{WellFormed}
-use Rattle.kinds.specs.Answer.{numberOf, namesPosition, leavesAll, positionOf}
+use Rattle.answers.specs.Answer.{numberOf, namesPosition, leavesAll, positionOf}
 use Rattle.counts.specs.Counts.{placeOf, countOf}
-use Rattle.kinds.specs.declared.Answer.{Answer}
-use Rattle.kinds.specs.declared.Answer.the-variants as A
+use Rattle.answers.specs.declared.Answer.{Answer}
+use Rattle.answers.specs.declared.Answer.the-variants as A
 use Rattle.counts.specs.declared.Fared.{Fared}
 use Rattle.counts.specs.declared.Fared.the-variants.{Mapped, Exact, Rounded, Clamped, Wrapped}
-use Rattle.kinds.specs.declared.Outcome.{Outcome}
-use Rattle.kinds.specs.declared.Outcome.the-variants.{Stored, NanOrInf, OutOfRange, FloatOutOfRange}
+use Rattle.answers.specs.declared.Outcome.{Outcome}
+use Rattle.answers.specs.declared.Outcome.the-variants.{Stored, NanOrInf, OutOfRange, FloatOutOfRange}
 use Rattle.cast_spec.specs.Chunk.{Inputs, callOf, outcomeAt, answerNext, answerFrom, answerOf, countsOf, convertedOf, faredAs, countBelow}
 use Rattle.cast_spec.specs.Counted.{Fares, HowMany, Counted}
 use Rattle.cast_spec.proofs.Checks.{answer-is}

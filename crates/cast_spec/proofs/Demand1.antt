@@ -10,25 +10,25 @@ use lib.Dec.{lit≤, T}
 use lib.ListN.{length, drop}
 use lib.Seq.{drop-append-add, drop-drop}
 use Rattle.bytes_le.proofs.Places.{first-place, next-place}
-use Rattle.kinds.specs.declared.Answer.{Answer}
+use Rattle.answers.specs.declared.Answer.{Answer}
 use Rattle.counts.specs.declared.Fared.{Fared}
-use Rattle.kinds.specs.declared.Outcome.the-variants.{FloatOutOfRange, NanOrInf, OutOfRange, Stored}
-use Rattle.kinds.specs.declared.Outcome.{Outcome}
+use Rattle.answers.specs.declared.Outcome.the-variants.{FloatOutOfRange, NanOrInf, OutOfRange, Stored}
+use Rattle.answers.specs.declared.Outcome.{Outcome}
 use Rattle.cast_spec.specs.Chunk.{Refuses, Reached, sw, dw, answerFrom, answerNext, bytesFrom, bytesNext, Inputs, answerOf, checksOf, codesListed, wrapPermitted, mapWhole, bytesWhole, countsMeet, callOf, destinationOf, outcomeAt}
 use Rattle.cast_spec.proofs.Places.{later}
 use Rattle.bytes_le.proofs.Sums.{length-toLe}
 use Rattle.patterns.specs.Kind.{Kind}
 use Rattle.patterns.specs.Value.{Value}
-use Rattle.kinds.specs.Codes.{kindOf}
-use Rattle.kinds.specs.Answer.{numberOf, namesPosition, leavesAll, noValues, bothCounts, valuesOf, positionOf, outcomeNumber, outcomeValues}
+use Rattle.kinds.specs.Table.{kindOf}
+use Rattle.answers.specs.Answer.{numberOf, namesPosition, leavesAll, noValues, bothCounts, valuesOf, positionOf, outcomeNumber, outcomeValues}
 use Rattle.bytes_le.specs.Bytes.{patternAt, toLe}
 use Rattle.cast_spec.specs.Demand1.{ConvertedTo, Demand1}
 use Rattle.cast_spec.proofs.Checks.{answer-is, destination-is, long-written, tested-by, ToElements, Causes, causes}
 use Rattle.cast_spec.proofs.Overrun.{overrun-range}
-use Rattle.kinds.proofs.Numbers.{never-both}
+use Rattle.answers.proofs.Numbers.{never-both}
 use Rattle.cast_spec.proofs.Each.{Served}
 use Rattle.cast_spec.proofs.Demand3.{at-place}
-use Rattle.kinds.specs.declared.Answer.the-variants as A
+use Rattle.answers.specs.declared.Answer.the-variants as A
 
 numbers : (r : Answer) → numberOf r ≤ 8
 numbers A.Converted = lit≤ tt

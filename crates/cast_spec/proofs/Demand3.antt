@@ -8,12 +8,13 @@ use lib.Dec.{T, ltb, eqb, lit<, lit≤}
 use lib.IntN.{ℤ}
 use lib.Pow.{pow-pos}
 use Rattle.patterns.specs.Kind.{Kind, integer, binary, isFloat, WellFormed}
-use Rattle.kinds.specs.Codes.{kindOf, rangeOf}
+use Rattle.kinds.specs.Table.{kindOf}
+use Rattle.codes.specs.Codes.{rangeOf}
 use Rattle.patterns.specs.Value.{Value, valueOf}
 use Rattle.cast_spec.specs.Chunk.{Inputs, Call, Reached, dw, settingsOf, callOf, outcomeAt, answerFrom, answerOf, bytesFrom, destinationOf, resultAt}
 use Rattle.bytes_le.specs.Bytes.{patternAt}
 use Rattle.cast_spec.specs.Demand3.{Taken, Rounded, Demand3}
-use Rattle.kinds.specs.declared.Answer.{Answer}
+use Rattle.answers.specs.declared.Answer.{Answer}
 use Rattle.cast_spec.proofs.Checks.{answer-is, destination-is, range-listed, wrap-permitted}
 use Rattle.cast_spec.proofs.Each.{Served, WrapsFloat, each-of}
 use Rattle.cast_spec.proofs.Places.{served}

@@ -13,15 +13,15 @@ use Rattle.patterns.specs.Kind.{Kind, integer, binary, gridOf, bits, lowest, hi
 use Rattle.patterns.specs.Value.{Value, inf, num, negative, valueOf}
 use Rattle.grid.specs.Ternary.{ternaryOf}
 use Rattle.counts.specs.Counts.{byPick}
-use Rattle.kinds.specs.declared.OutOfRangeMode.{OutOfRangeMode}
-use Rattle.kinds.specs.declared.OutOfRangeMode.the-variants.{None, Clamp, Wrap}
+use Rattle.codes.specs.declared.OutOfRangeMode.{OutOfRangeMode}
+use Rattle.codes.specs.declared.OutOfRangeMode.the-variants.{None, Clamp, Wrap}
 use Rattle.patterns.specs.Pattern.{patternOf, asF64}
 use Rattle.cast_spec.specs.Element.{nearerEnd, beyond}
-use Rattle.kinds.specs.declared.Outcome.{Outcome}
-use Rattle.kinds.specs.declared.Outcome.the-variants.{Stored, NanOrInf, OutOfRange, FloatOutOfRange}
+use Rattle.answers.specs.declared.Outcome.{Outcome}
+use Rattle.answers.specs.declared.Outcome.the-variants.{Stored, NanOrInf, OutOfRange, FloatOutOfRange}
 use Rattle.cast_spec.specs.Chunk.{Call, outcomeAt}
 use Rattle.cast_spec.specs.Demand3.{Taken, RefusedBy, Kept, Congruent, Handled, Rounded}
-use Rattle.kinds.specs.declared.Answer.{Answer}
+use Rattle.answers.specs.declared.Answer.{Answer}
 use Rattle.patterns.proofs.AnyKind.{sound, sign-of, pick-sign, int-back, int-fits, pattern-back, pattern-fits, lowest-in, unit-pos, multiple, ends-meet, high-on, low-on}
 use Rattle.cast_spec.proofs.Steps.{outcome-is, by-range}
 use Rattle.patterns.proofs.Floats.{inf-back, inf-fits}

@@ -9,7 +9,7 @@ use Rattle.bytes_le.proofs.Fetches.{pattern-is-fetched}
 use Rattle.bytes_le.proofs.Unique.{AreBytes}
 use Rattle.bytes_le.proofs.Widths.{element-place}
 use Rattle.patterns.specs.Kind.{width}
-use Rattle.kinds.specs.Codes.{kindOf}
+use Rattle.kinds.specs.Table.{kindOf}
 use Rattle.cast_spec.proofs.Widths.{listed-width}
 
 pub kind-fetched : (code : ℕ) → code < 10 → (s : List ℕ) (i : ℕ) → (i + 1) * width (kindOf code) ≤ length s

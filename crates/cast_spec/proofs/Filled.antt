@@ -11,11 +11,11 @@ use Rattle.patterns.specs.Kind.{Kind, integer, binary, gridOf}
 use Rattle.patterns.specs.Value.{Value, nan, inf, num, negative, valueOf}
 use Rattle.patterns.specs.Pattern.{asF64, patternOf}
 use Rattle.counts.specs.Counts.{byPick}
-use Rattle.kinds.specs.declared.OutOfRangeMode.{OutOfRangeMode}
-use Rattle.kinds.specs.declared.OutOfRangeMode.the-variants.{None, Clamp, Wrap}
-use Rattle.kinds.specs.declared.Outcome.the-variants.{Stored}
-use Rattle.kinds.specs.declared.Lookup.{Lookup}
-use Rattle.kinds.specs.declared.Lookup.the-variants.{Found, Missing}
+use Rattle.codes.specs.declared.OutOfRangeMode.{OutOfRangeMode}
+use Rattle.codes.specs.declared.OutOfRangeMode.the-variants.{None, Clamp, Wrap}
+use Rattle.answers.specs.declared.Outcome.the-variants.{Stored}
+use Rattle.answers.specs.declared.Lookup.{Lookup}
+use Rattle.answers.specs.declared.Lookup.the-variants.{Found, Missing}
 use Rattle.cast_spec.specs.Element.{beyond, converted, foundOr, inRange, ranged}
 use Rattle.cast_spec.specs.Fit.{fitOf, filled, unmapped}
 

@@ -21,17 +21,18 @@ use Rattle.patterns.specs.Value.{Value, nan, inf, num, negative, floatValue, va
 use Rattle.patterns.specs.Pattern.{quiet, nanPattern, asF64, asF64From}
 use Rattle.patterns.proofs.Floats.{nan-back}
 use Rattle.patterns.proofs.Integers.{no-integer-nan}
-use Rattle.kinds.specs.Codes.{kindOf, roundingOf, rangeOf}
+use Rattle.kinds.specs.Table.{kindOf}
+use Rattle.codes.specs.Codes.{roundingOf, rangeOf}
 use Rattle.counts.specs.declared.Counts.{Counts}
 use Rattle.counts.specs.declared.Fared.{Fared}
 use Rattle.counts.specs.declared.Fared.the-variants.{Mapped, Exact, Rounded, Clamped, Wrapped}
-use Rattle.kinds.specs.declared.OutOfRangeMode.{OutOfRangeMode}
-use Rattle.kinds.specs.declared.Lookup.{Lookup}
-use Rattle.kinds.specs.declared.Lookup.the-variants.{Found}
-use Rattle.kinds.specs.declared.Outcome.{Outcome}
-use Rattle.kinds.specs.declared.Outcome.the-variants.{Stored, NanOrInf, OutOfRange, FloatOutOfRange}
-use Rattle.kinds.specs.declared.Answer.{Answer}
-use Rattle.kinds.specs.declared.Reply.{Reply}
+use Rattle.codes.specs.declared.OutOfRangeMode.{OutOfRangeMode}
+use Rattle.answers.specs.declared.Lookup.{Lookup}
+use Rattle.answers.specs.declared.Lookup.the-variants.{Found}
+use Rattle.answers.specs.declared.Outcome.{Outcome}
+use Rattle.answers.specs.declared.Outcome.the-variants.{Stored, NanOrInf, OutOfRange, FloatOutOfRange}
+use Rattle.answers.specs.declared.Answer.{Answer}
+use Rattle.answers.specs.declared.Reply.{Reply}
 use Rattle.cast_spec.specs.Element.{Entry, Settings, matches, lookupOf, foundOr, converted, outcomeOf}
 use Rattle.cast_spec.specs.Chunk.{Inputs, inputs, entriesFrom, sw, dw, settingsOf, mapWhole, bytesWhole, countsMeet, Check, checksOf, allPass, tested, callOf, outcomeAt, answerNext, answerFrom, answerOf, convertedOf, faredAs, countBelow, countsOf, bytesNext, bytesFrom, destinationOf}
 use Rattle.cast_spec.specs.Contract.{Contract}

@@ -12,10 +12,10 @@ use lib.Seq.{drop-length}
 use borrow.Author.Tests.{eqb-true, eqb-false}
 use Rattle.bytes_le.specs.Bytes.{patternAt}
 use Rattle.bytes_le.proofs.Unique.{AreBytes, one-chunk}
-use Rattle.kinds.specs.Answer.{numberOf, namesPosition, leavesAll, valuesOf, positionOf, outcomeValues}
-use Rattle.kinds.proofs.Numbers.{names-or-leaves, leaves-1-to-4-and-8}
+use Rattle.answers.specs.Answer.{numberOf, namesPosition, leavesAll, valuesOf, positionOf, outcomeValues}
+use Rattle.answers.proofs.Numbers.{names-or-leaves, leaves-1-to-4-and-8}
 use Rattle.counts.specs.Counts.{countOf}
-use Rattle.kinds.specs.declared.Answer.{Answer}
+use Rattle.answers.specs.declared.Answer.{Answer}
 use Rattle.counts.specs.declared.Counts.{Counts}
 use Rattle.counts.specs.declared.Fared.{Fared}
 use Rattle.cast_spec.specs.Chunk.{Inputs, Call, callOf, outcomeAt, dw, codesListed, wrapPermitted, mapWhole, bytesWhole, countsMeet, convertedOf}

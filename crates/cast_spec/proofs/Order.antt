@@ -9,13 +9,13 @@ use Rattle.grid.proofs.Int.{up, dn, ints, split, →eq}
 use Rattle.grid.proofs.Order.{zero-on, monotone, unique}
 use Rattle.patterns.specs.Kind.{Kind, integer, binary, gridOf, lowest, highest, InRange}
 use Rattle.patterns.specs.Value.{Value, inf, num}
-use Rattle.kinds.specs.declared.OutOfRangeMode.{OutOfRangeMode}
-use Rattle.kinds.specs.declared.OutOfRangeMode.the-variants.{None, Clamp, Wrap}
+use Rattle.codes.specs.declared.OutOfRangeMode.{OutOfRangeMode}
+use Rattle.codes.specs.declared.OutOfRangeMode.the-variants.{None, Clamp, Wrap}
 use Rattle.cast_spec.specs.Element.{Settings}
 use Rattle.cast_spec.specs.Chunk.{Call}
 use Rattle.cast_spec.specs.Demand3.{Taken, Pick, RefusedBy, Kept, Handled, Rounded, Wraps, Wrapped, _≤ᵉ_, Compared}
-use Rattle.kinds.specs.Answer.{namesPosition}
-use Rattle.kinds.specs.declared.Answer.{Answer}
+use Rattle.answers.specs.Answer.{namesPosition}
+use Rattle.answers.specs.declared.Answer.{Answer}
 use Rattle.grid.specs.Round.{pick}
 use Rattle.patterns.proofs.AnyKind.{high-zero, low-zero}
 

@@ -9,13 +9,13 @@ use lib.IntN.{ℤ}
 use Rattle.grid.specs.Round.{pick}
 use Rattle.patterns.specs.Kind.{Kind, integer, binary, gridOf}
 use Rattle.patterns.specs.Value.{Value, nan, inf, num, valueOf}
-use Rattle.kinds.specs.Codes.{rangeOf}
-use Rattle.kinds.specs.Answer.{outcomeNumber}
-use Rattle.kinds.specs.declared.OutOfRangeMode.{OutOfRangeMode}
-use Rattle.kinds.specs.declared.OutOfRangeMode.the-variants.{None, Clamp, Wrap}
-use Rattle.kinds.specs.declared.Lookup.{Lookup}
-use Rattle.kinds.specs.declared.Lookup.the-variants.{Found, Missing}
-use Rattle.kinds.specs.declared.Outcome.{Outcome}
+use Rattle.codes.specs.Codes.{rangeOf}
+use Rattle.answers.specs.Answer.{outcomeNumber}
+use Rattle.codes.specs.declared.OutOfRangeMode.{OutOfRangeMode}
+use Rattle.codes.specs.declared.OutOfRangeMode.the-variants.{None, Clamp, Wrap}
+use Rattle.answers.specs.declared.Lookup.{Lookup}
+use Rattle.answers.specs.declared.Lookup.the-variants.{Found, Missing}
+use Rattle.answers.specs.declared.Outcome.{Outcome}
 use Rattle.cast_spec.specs.Element.{Settings, lookupOf, foundOr, inRange, beyond, converted, outcomeOf}
 use Rattle.cast_spec.specs.Chunk.{Inputs, settingsOf, callOf, outcomeAt}
 use Rattle.cast_spec.proofs.Each.{WrapsFloat}

@@ -8,11 +8,11 @@ use lib.Dec.{T}
 use lib.ListN.{drop}
 use Rattle.patterns.specs.Kind.{Kind, bits}
 use Rattle.patterns.specs.Value.{valueOf}
-use Rattle.kinds.specs.declared.Outcome.{Outcome}
-use Rattle.kinds.specs.declared.Outcome.the-variants.{Stored, NanOrInf, OutOfRange, FloatOutOfRange}
+use Rattle.answers.specs.declared.Outcome.{Outcome}
+use Rattle.answers.specs.declared.Outcome.the-variants.{Stored, NanOrInf, OutOfRange, FloatOutOfRange}
 use Rattle.bytes_le.specs.Bytes.{patternAt}
 use Rattle.cast_spec.specs.Chunk.{answerNext, answerFrom, bytesNext, bytesFrom, Refuses}
-use Rattle.kinds.specs.Answer.{numberOf, namesPosition, positionOf}
+use Rattle.answers.specs.Answer.{numberOf, namesPosition, positionOf}
 use Rattle.cast_spec.proofs.Each.{Served}
 use Rattle.bytes_le.proofs.Places.{first-place, next-place}
 

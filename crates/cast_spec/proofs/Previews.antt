@@ -16,13 +16,13 @@ use Rattle.bytes_le.proofs.Sums.{length-toLe}
 use Rattle.hamming.specs.Distance.{distance}
 use Rattle.hamming.proofs.Distances.{same-0, only-same-0, over-parts, at-most-front}
 use Rattle.counts.specs.declared.Counts.{Counts}
-use Rattle.kinds.specs.Answer.{numberOf, namesPosition, leavesAll, positionOf}
-use Rattle.kinds.specs.declared.Answer.{Answer}
-use Rattle.kinds.specs.declared.Answer.the-variants as A
-use Rattle.kinds.specs.declared.Outcome.{Outcome}
-use Rattle.kinds.specs.declared.Outcome.the-variants.{Stored, NanOrInf, OutOfRange, FloatOutOfRange}
-use Rattle.kinds.specs.declared.Preview.{Preview}
-use Rattle.kinds.specs.declared.Reply.{Reply}
+use Rattle.answers.specs.Answer.{numberOf, namesPosition, leavesAll, positionOf}
+use Rattle.answers.specs.declared.Answer.{Answer}
+use Rattle.answers.specs.declared.Answer.the-variants as A
+use Rattle.answers.specs.declared.Outcome.{Outcome}
+use Rattle.answers.specs.declared.Outcome.the-variants.{Stored, NanOrInf, OutOfRange, FloatOutOfRange}
+use Rattle.answers.specs.declared.Preview.{Preview}
+use Rattle.answers.specs.declared.Reply.{Reply}
 use Rattle.cast_spec.specs.Chunk.{Inputs, inputs, sw, dw, codesListed, wrapPermitted, mapWhole, Call, settingsOf, callOf, outcomeAt, answerOf, destinationOf, convertedOf, bytesNext, bytesFrom}
 use Rattle.cast_spec.specs.Contract.{Contract}
 use Rattle.cast_spec.specs.Counted.{HowMany}

@@ -5,9 +5,9 @@ use mathlib.Core.List.{List, [], _∷_}
 use Prim.Native.Nat.{_/_}
 use lib.ListN.{length}
 use borrow.Author.Tests.{ne-eqb}
-use Rattle.kinds.specs.Answer.{unconverted}
-use Rattle.kinds.specs.declared.Answer.{Answer}
-use Rattle.kinds.specs.declared.Answer.the-variants as A
+use Rattle.answers.specs.Answer.{unconverted}
+use Rattle.answers.specs.declared.Answer.{Answer}
+use Rattle.answers.specs.declared.Answer.the-variants as A
 use Rattle.cast_spec.specs.Chunk.{Inputs, sw, dw, codesListed, wrapPermitted, mapWhole, bytesWhole, Check, checksOf, allPass, tested, callOf, outcomeAt, answerOf, countsOf, convertedOf, countsBelow}
 use Rattle.cast_spec.specs.Contract.{Contract}
 use Rattle.cast_spec.proofs.Checks.{tested-by, not-passed}

@@ -12,13 +12,13 @@ use Rattle.counts.specs.Tally.{counted}
 use Rattle.counts.specs.declared.Counts.{Counts}
 use Rattle.counts.specs.declared.Fared.{Fared}
 use Rattle.counts.specs.declared.Fared.the-variants.{Mapped, Exact, Rounded, Clamped, Wrapped}
-use Rattle.kinds.specs.declared.Outcome.{Outcome}
-use Rattle.kinds.specs.declared.Outcome.the-variants.{Stored, NanOrInf, OutOfRange, FloatOutOfRange}
+use Rattle.answers.specs.declared.Outcome.{Outcome}
+use Rattle.answers.specs.declared.Outcome.the-variants.{Stored, NanOrInf, OutOfRange, FloatOutOfRange}
 use Rattle.bytes_le.specs.Bytes.{toLe}
 use Rattle.cast_spec.specs.Chunk.{answerNext, answerFrom, bytesNext, bytesFrom, convertedOf, faredAs, countBelow, countsBelow, Refuses}
 use Rattle.bytes_le.proofs.Sums.{length-toLe}
-use Rattle.kinds.specs.declared.Answer.{Answer}
-use Rattle.kinds.specs.declared.Answer.the-variants as A
+use Rattle.answers.specs.declared.Answer.{Answer}
+use Rattle.answers.specs.declared.Answer.the-variants as A
 
 -- the whole run's answer R and bytes W are those that the positions from i to before n give where d stands
 pub record Run (o : ℕ → Outcome) (w n : ℕ) (R : Answer) (W : List ℕ) (i : ℕ) (d : List ℕ) : Type 0 where

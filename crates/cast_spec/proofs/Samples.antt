@@ -10,24 +10,24 @@ use Rattle.grid.specs.Ternary.{ternaryOf}
 use Rattle.grid.specs.declared.RoundingMode.{RoundingMode}
 use Rattle.grid.specs.declared.RoundingMode.the-variants.{NearestEven, TowardsZero, TowardsPositive, TowardsNegative, NearestAway}
 use Rattle.patterns.specs.Float.{bitsMag}
-use Rattle.kinds.specs.Codes.{kindOf}
+use Rattle.kinds.specs.Table.{kindOf}
 use Rattle.patterns.specs.Value.{valueOf}
 use Rattle.patterns.specs.Kind.{Kind, f32, f64, lowest, highest}
 use Rattle.counts.specs.Counts.{noCounts}
 use Rattle.counts.specs.declared.Counts.{Counts}
 use Rattle.counts.specs.declared.Fared.the-variants.{Mapped, Exact, Rounded, Clamped, Wrapped}
-use Rattle.kinds.specs.declared.OutOfRangeMode.{OutOfRangeMode}
-use Rattle.kinds.specs.declared.OutOfRangeMode.the-variants.{None, Clamp, Wrap}
+use Rattle.codes.specs.declared.OutOfRangeMode.{OutOfRangeMode}
+use Rattle.codes.specs.declared.OutOfRangeMode.the-variants.{None, Clamp, Wrap}
 use Rattle.cast_spec.specs.Element.{Entry, beyond, outcomeOf}
 use Rattle.patterns.specs.Pattern.{patternOf, nanPattern}
-use Rattle.kinds.specs.declared.Outcome.{Outcome}
-use Rattle.kinds.specs.declared.Outcome.the-variants.{Stored, NanOrInf, OutOfRange, FloatOutOfRange}
+use Rattle.answers.specs.declared.Outcome.{Outcome}
+use Rattle.answers.specs.declared.Outcome.the-variants.{Stored, NanOrInf, OutOfRange, FloatOutOfRange}
 use Rattle.cast_spec.specs.Chunk.{Inputs, inputs, dw, settingsOf, callOf, outcomeAt, answerOf, countsOf, destinationOf, convertedOf}
 use Rattle.cast_spec.specs.Preview.{previewOf}
-use Rattle.kinds.specs.declared.Preview.{Preview}
+use Rattle.answers.specs.declared.Preview.{Preview}
 use Rattle.bytes_le.specs.Bytes.{toLe}
-use Rattle.kinds.specs.declared.Answer.{Answer}
-use Rattle.kinds.specs.declared.Answer.the-variants as A
+use Rattle.answers.specs.declared.Answer.{Answer}
+use Rattle.answers.specs.declared.Answer.the-variants as A
 
 -- ---- what the rows are written with
 abbrev i8 : Kind

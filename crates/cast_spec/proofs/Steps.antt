@@ -13,10 +13,10 @@ use Rattle.patterns.specs.Kind.{Kind, integer, binary, gridOf, lowest, highest,
 use Rattle.patterns.specs.Value.{Value, nan, inf, num, negative, valueOf}
 use Rattle.cast_spec.specs.Element.{Entry, Settings, matches, lookupOf, foundOr, inRange, ranged, converted, outcomeOf}
 use Rattle.patterns.specs.Pattern.{asF64}
-use Rattle.kinds.specs.declared.OutOfRangeMode.{OutOfRangeMode}
-use Rattle.kinds.specs.declared.Lookup.{Lookup}
-use Rattle.kinds.specs.declared.Lookup.the-variants.{Found, Missing}
-use Rattle.kinds.specs.declared.Outcome.{Outcome}
+use Rattle.codes.specs.declared.OutOfRangeMode.{OutOfRangeMode}
+use Rattle.answers.specs.declared.Lookup.{Lookup}
+use Rattle.answers.specs.declared.Lookup.the-variants.{Found, Missing}
+use Rattle.answers.specs.declared.Outcome.{Outcome}
 
 -- ---- the map
 no-match : (k : Kind) (x : ℤ) (es : List Entry) → ((e : Entry) → List·Memᴰ e es → valueOf k (e .key) ≡ num x → ⊥) → lookupOf k (num x) es ≡ Missing

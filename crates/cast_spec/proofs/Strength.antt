@@ -12,12 +12,12 @@ use Rattle.grid.proofs.Order.{unique}
 use Rattle.grid.proofs.Neighbours.{cut, pow-twice-pred}
 use Rattle.patterns.specs.Kind.{Kind, integer, binary, gridOf, highInt, lowest, highest, InRange, WellFormed}
 use Rattle.patterns.specs.Value.{Value, num}
-use Rattle.kinds.specs.declared.OutOfRangeMode.{OutOfRangeMode}
-use Rattle.kinds.specs.declared.OutOfRangeMode.the-variants.{None, Clamp, Wrap}
+use Rattle.codes.specs.declared.OutOfRangeMode.{OutOfRangeMode}
+use Rattle.codes.specs.declared.OutOfRangeMode.the-variants.{None, Clamp, Wrap}
 use Rattle.cast_spec.specs.Element.{Settings}
 use Rattle.cast_spec.specs.Chunk.{Inputs, callOf, answerOf, destinationOf, resultAt}
 use Rattle.cast_spec.specs.Demand3.{Kept, Congruent, Handled, Rounded, Taken, Demand3}
-use Rattle.kinds.specs.declared.Answer.{Answer}
+use Rattle.answers.specs.declared.Answer.{Answer}
 use Rattle.patterns.proofs.Integers.{add-parts, up-times, dn-times, lowIn}
 use Rattle.patterns.proofs.AnyKind.{low-zero, high-zero, lowest-in, unit-pos}
 use Rattle.cast_spec.proofs.Order.{below-zero, above-zero, refused}

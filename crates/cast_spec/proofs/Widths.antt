@@ -10,7 +10,7 @@ use Rattle.bytes_le.specs.Bytes.{Width}
 use Rattle.bytes_le.proofs.Sums.{byte-patterns}
 use Rattle.bytes_le.proofs.Widths.{positive-width}
 use Rattle.patterns.specs.Kind.{Kind, integer, f32, f64, bits, width}
-use Rattle.kinds.specs.Codes.{kindOf}
+use Rattle.kinds.specs.Table.{kindOf}
 use Rattle.kinds.proofs.Listed.{by-kind}
 
 bytes-of-bits : (m : ℕ) → 8 * m / 8 ≡ m

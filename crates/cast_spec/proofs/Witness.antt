@@ -15,13 +15,14 @@ use Rattle.grid.specs.Round.{pick}
 use Rattle.grid.proofs.Picked.{pick-only}
 use Rattle.patterns.specs.Float.{bitsMag}
 use Rattle.patterns.specs.Value.{Value, nan, inf, num, valueOf}
-use Rattle.kinds.specs.Codes.{kindOf, rangeOf}
+use Rattle.kinds.specs.Table.{kindOf}
+use Rattle.codes.specs.Codes.{rangeOf}
 use Rattle.patterns.specs.Kind.{Kind, f64, lowest, highest, InRange}
 use Rattle.cast_spec.specs.Element.{Entry, beyond, outcomeOf}
 use Rattle.patterns.specs.Pattern.{patternOf}
 use Rattle.cast_spec.specs.Chunk.{Call, Reached, settingsOf, callOf, outcomeAt, Refuses}
 use Rattle.cast_spec.specs.Demand3.{Taken, RefusedBy, Kept, Congruent, Handled, _≤ᵉ_, Demand3}
-use Rattle.kinds.specs.declared.Answer.{Answer}
+use Rattle.answers.specs.declared.Answer.{Answer}
 use Rattle.cast_spec.proofs.Samples.{mixed}
 use Rattle.cast_spec.proofs.Strength.{one-number}
 

@@ -7,16 +7,17 @@ use lib.ListN.{length, drop}
 use Rattle.bytes_le.specs.Bytes.{toLe, patternAt}
 use Rattle.patterns.specs.Kind.{width}
 use Rattle.patterns.specs.Value.{Value, valueOf}
-use Rattle.kinds.specs.Codes.{kindOf, roundingOf, rangeOf, wrapBarred}
+use Rattle.kinds.specs.Table.{kindOf}
+use Rattle.codes.specs.Codes.{roundingOf, rangeOf, wrapBarred}
 use Rattle.counts.specs.Counts.{placeOf}
 use Rattle.counts.specs.declared.Counts.{Counts}
 use Rattle.counts.specs.declared.Fared.{Fared}
 use Rattle.counts.specs.declared.Fared.the-variants.{Mapped, Exact, Rounded, Clamped, Wrapped}
-use Rattle.kinds.specs.declared.Outcome.{Outcome}
-use Rattle.kinds.specs.declared.Outcome.the-variants.{Stored, NanOrInf, OutOfRange, FloatOutOfRange}
-use Rattle.kinds.specs.declared.Answer.{Answer}
+use Rattle.answers.specs.declared.Outcome.{Outcome}
+use Rattle.answers.specs.declared.Outcome.the-variants.{Stored, NanOrInf, OutOfRange, FloatOutOfRange}
+use Rattle.answers.specs.declared.Answer.{Answer}
 use Rattle.cast_spec.specs.Element.{Entry, Settings, outcomeOf}
-use Rattle.kinds.specs.declared.Answer.the-variants as A
+use Rattle.answers.specs.declared.Answer.the-variants as A
 
 -- "Source, destination, map keys (source kind) and map targets (target kind) are bytes", and four codes
 pub record Inputs : Type 0 where

@@ -2,7 +2,7 @@
 use mathlib.Core.Path.{_≡_}
 use mathlib.Core.List.{List}
 use Prim.Native.Nat.{ℕ}
-use Rattle.kinds.specs.declared.Reply.{Reply}
+use Rattle.answers.specs.declared.Reply.{Reply}
 use Rattle.cast_spec.specs.Chunk.{Inputs, callOf, answerOf, countsOf, destinationOf, resultAt}
 use Rattle.cast_spec.specs.Counted.{Counted}
 use Rattle.cast_spec.specs.Demand1.{Demand1}

@@ -9,11 +9,11 @@ use Rattle.grid.specs.Pick.{IsPick}
 use Rattle.patterns.specs.Kind.{gridOf, InRange}
 use Rattle.patterns.specs.Value.{Value, num, valueOf}
 use Rattle.counts.specs.Counts.{countOf}
-use Rattle.kinds.specs.declared.Answer.{Answer}
+use Rattle.answers.specs.declared.Answer.{Answer}
 use Rattle.counts.specs.declared.Counts.{Counts}
 use Rattle.counts.specs.declared.Fared.{Fared}
 use Rattle.counts.specs.declared.Fared.the-variants.{Mapped, Exact, Rounded, Clamped, Wrapped}
-use Rattle.kinds.specs.declared.OutOfRangeMode.the-variants.{Clamp, Wrap}
+use Rattle.codes.specs.declared.OutOfRangeMode.the-variants.{Clamp, Wrap}
 use Rattle.cast_spec.specs.Element.{Entry, matches}
 use Rattle.cast_spec.specs.Chunk.{Call, convertedOf}
 

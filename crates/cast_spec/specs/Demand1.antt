@@ -7,10 +7,10 @@ use Prim.Native.Nat.{ℕ, _*_, _/_, _%_, _^_, _≤_, _<_}
 use lib.Dec.{T}
 use lib.ListN.{length, drop}
 use Rattle.bytes_le.specs.Bytes.{patternAt}
-use Rattle.kinds.specs.Answer.{numberOf, namesPosition, leavesAll, noValues, bothCounts, valuesOf, positionOf, outcomeNumber, outcomeValues}
+use Rattle.answers.specs.Answer.{numberOf, namesPosition, leavesAll, noValues, bothCounts, valuesOf, positionOf, outcomeNumber, outcomeValues}
 use Rattle.counts.specs.declared.Fared.{Fared}
-use Rattle.kinds.specs.declared.Outcome.the-variants.{Stored}
-use Rattle.kinds.specs.declared.Answer.{Answer}
+use Rattle.answers.specs.declared.Outcome.the-variants.{Stored}
+use Rattle.answers.specs.declared.Answer.{Answer}
 use Rattle.cast_spec.specs.Chunk.{Inputs, callOf, outcomeAt, Reached, sw, dw, codesListed, wrapPermitted, mapWhole, bytesWhole, countsMeet}
 
 -- the element at i is converted: its steps store the pattern that its place in d holds

@@ -9,12 +9,12 @@ use lib.Signed.{_≤ℤ_, _<ℤ_}
 use Rattle.grid.specs.Pick.{IsPick}
 use Rattle.patterns.specs.Kind.{Kind, integer, binary, gridOf, bits, lowest, highest, InRange}
 use Rattle.patterns.specs.Value.{Value, nan, inf, num, valueOf}
-use Rattle.kinds.specs.declared.OutOfRangeMode.{OutOfRangeMode}
-use Rattle.kinds.specs.declared.OutOfRangeMode.the-variants.{None, Clamp, Wrap}
+use Rattle.codes.specs.declared.OutOfRangeMode.{OutOfRangeMode}
+use Rattle.codes.specs.declared.OutOfRangeMode.the-variants.{None, Clamp, Wrap}
 use Rattle.cast_spec.specs.Element.{Entry, Settings}
 use Rattle.cast_spec.specs.Chunk.{Call, Reached}
-use Rattle.kinds.specs.Answer.{numberOf, namesPosition, positionOf}
-use Rattle.kinds.specs.declared.Answer.{Answer}
+use Rattle.answers.specs.Answer.{numberOf, namesPosition, positionOf}
+use Rattle.answers.specs.declared.Answer.{Answer}
 
 -- ---- "any element that the call reaches, finite and matched by no map entry": all by the inputs alone
 

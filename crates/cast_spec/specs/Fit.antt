@@ -7,11 +7,11 @@ use Rattle.grid.specs.Round.{pick}
 use Rattle.grid.specs.declared.RoundingMode.{RoundingMode}
 use Rattle.patterns.specs.Kind.{Kind, integer, binary, gridOf, lowInt, highInt}
 use Rattle.patterns.specs.Value.{valueOf}
-use Rattle.kinds.specs.declared.OutOfRangeMode.{OutOfRangeMode}
-use Rattle.kinds.specs.declared.Outcome.{Outcome}
-use Rattle.kinds.specs.declared.Outcome.the-variants as O
-use Rattle.kinds.specs.declared.Fit.{Fit}
-use Rattle.kinds.specs.declared.Fit.the-variants.{Pattern, NotFinite, OutOfRange}
+use Rattle.codes.specs.declared.OutOfRangeMode.{OutOfRangeMode}
+use Rattle.answers.specs.declared.Outcome.{Outcome}
+use Rattle.answers.specs.declared.Outcome.the-variants as O
+use Rattle.answers.specs.declared.Fit.{Fit}
+use Rattle.answers.specs.declared.Fit.the-variants.{Pattern, NotFinite, OutOfRange}
 use Rattle.cast_spec.specs.Element.{converted, overrun, ranged}
 
 -- an outcome without its value and ends

@@ -7,10 +7,10 @@ use lib.ListN.{length}
 use Rattle.bytes_le.specs.Bytes.{patternAt}
 use Rattle.patterns.specs.Kind.{Kind, f64}
 use Rattle.patterns.specs.Value.{nan, valueOf}
-use Rattle.kinds.specs.Codes.{kindOf}
-use Rattle.kinds.specs.declared.Answer.{Answer}
-use Rattle.kinds.specs.declared.Answer.the-variants as A
-use Rattle.kinds.specs.declared.Reply.{Reply}
+use Rattle.kinds.specs.Table.{kindOf}
+use Rattle.answers.specs.declared.Answer.{Answer}
+use Rattle.answers.specs.declared.Answer.the-variants as A
+use Rattle.answers.specs.declared.Reply.{Reply}
 use Rattle.cast_spec.specs.Chunk.{Inputs, inputs, sw, dw, answerOf, countsOf, destinationOf}
 
 -- two patterns of a kind stand for one element: they are equal, or each is a NaN's

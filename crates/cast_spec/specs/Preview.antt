@@ -4,7 +4,7 @@ use mathlib.Core.Logic.{_≢_}
 use Prim.Native.Nat.{ℕ}
 use lib.ListN.{length, getD}
 use Rattle.hamming.specs.Distance.{distance}
-use Rattle.kinds.specs.declared.Preview.{Preview}
+use Rattle.answers.specs.declared.Preview.{Preview}
 use Rattle.cast_spec.specs.Chunk.{Inputs, callOf, answerOf, countsOf, destinationOf}
 use Rattle.cast_spec.specs.Counted.{Counted, HowMany}
 use Rattle.cast_spec.specs.Demand1.{Demand1}

@@ -6,10 +6,10 @@ use Prim.Native.Nat.{ℕ}
 use native.Mathlib.Nat.{le-of-eq}
 use Rattle.hamming.specs.Distance.{distance}
 use Rattle.hamming.proofs.Distances.{same-0}
-use Rattle.kinds.specs.Answer.{unconverted}
-use Rattle.kinds.specs.declared.Answer.{Answer}
-use Rattle.kinds.specs.declared.Preview.{Preview}
-use Rattle.kinds.specs.declared.Reply.{Reply}
+use Rattle.answers.specs.Answer.{unconverted}
+use Rattle.answers.specs.declared.Answer.{Answer}
+use Rattle.answers.specs.declared.Preview.{Preview}
+use Rattle.answers.specs.declared.Reply.{Reply}
 use Rattle.cast_spec.specs.Chunk.{Inputs, sw, dw, checksOf, allPass, callOf, outcomeAt, settingsOf, answerFrom, answerOf, bytesFrom, destinationOf, convertedOf, countsBelow, countsOf}
 use Rattle.cast_spec.specs.Contract.{Contract}
 use Rattle.cast_spec.specs.Preview.{Previewed}

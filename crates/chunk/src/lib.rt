@@ -3,11 +3,11 @@ ghost use mathlib.Core.Path.{_≡_};
 ghost use Rattle.cast_spec.specs.Chunk.{inputs};
 ghost use Rattle.cast_spec.specs.Contract.{Contract};
 ghost use Rattle.cast_spec.specs.Preview.{Previewed};
-ghost use Rattle.kinds.specs.Answer.{unconverted};
+ghost use Rattle.answers.specs.Answer.{unconverted};
+use answers::Answer;
+use answers::Preview;
+use answers::Reply;
 use chunk_checks::Checked;
-use kinds::Answer;
-use kinds::Preview;
-use kinds::Reply;
 
 // A call that is refused before its elements.
 fn refused(answer: Answer) -> Reply

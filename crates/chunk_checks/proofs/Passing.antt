@@ -9,11 +9,12 @@ use Rattle.cast_spec.specs.Element as E
 use Rattle.cast_spec.proofs.Checks.{map-whole, whole-length}
 use Rattle.cast_spec.proofs.Refusals.{RefusedBy}
 use Rattle.cast_spec.proofs.Widths.{listed-width, width-bits}
-use Rattle.kinds.specs.Codes.{rangeOf, roundingOf}
-use Rattle.kinds.specs.declared.Answer.{Answer}
-use Rattle.kinds.specs.declared.Answer.the-variants.{Converted}
-use Rattle.kinds.proofs.Listed.{format-row, kind-back, listed-kinds}
-use Rattle.kinds.proofs.Numbers.{both, parts}
+use Rattle.codes.specs.Codes.{rangeOf, roundingOf}
+use Rattle.answers.specs.declared.Answer.{Answer}
+use Rattle.answers.specs.declared.Answer.the-variants.{Converted}
+use Rattle.kinds.proofs.Listed.{format-row, kind-back}
+use Rattle.codes.proofs.Listed.{listed-kinds}
+use Rattle.grid.proofs.Tests.{both, parts}
 use Rattle.patterns.specs.Kind.{Kind, bits}
 use Rattle.chunk_element.specs.declared.Settings.{Settings}
 use Rattle.chunk_element.specs.Settings.{MapReady, Ready, settingsFor}

@@ -3,9 +3,10 @@ use mathlib.Core.Path.{_≡_, ap, ap₂, _∙_}
 use Prim.Native.Nat.{ℕ, _/_}
 use Rattle.chunk_element.specs.declared.Settings.{Settings}
 use Rattle.chunk_checks.specs.Settings.{settingsBy}
-use Rattle.kinds.specs.Codes.{kindOf, rangeOf, roundingOf}
+use Rattle.kinds.specs.Table.{kindOf}
+use Rattle.codes.specs.Codes.{rangeOf, roundingOf}
 use Rattle.kinds.specs.declared.KindRow.{KindRow}
-use Rattle.kinds.specs.declared.OutOfRangeMode.{OutOfRangeMode}
+use Rattle.codes.specs.declared.OutOfRangeMode.{OutOfRangeMode}
 use Rattle.grid.specs.declared.RoundingMode.{RoundingMode}
 use Rattle.patterns.specs.Kind.{width}
 use Rattle.kinds.specs.Row.{formatOf, rowOf}

@@ -1,7 +1,7 @@
 -- Internal: what the checks of a call come to.
 use mathlib.Core.Bool.{cond}
 use lib.ListN.{length}
-use Rattle.kinds.specs.declared.Answer.the-variants.{Converted}
+use Rattle.answers.specs.declared.Answer.the-variants.{Converted}
 use Rattle.cast_spec.specs.Chunk.{Inputs, checksOf, allPass, tested, callOf}
 use Rattle.chunk_element.specs.declared.Settings.{Settings}
 use Rattle.chunk_checks.specs.declared.Checked.{Checked}

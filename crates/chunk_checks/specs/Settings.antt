@@ -1,7 +1,8 @@
 -- Internal: the settings of a call's codes.
 use Prim.Native.Nat.{ℕ, _/_}
 use Rattle.patterns.specs.Kind.{width}
-use Rattle.kinds.specs.Codes.{kindOf, roundingOf, rangeOf}
+use Rattle.kinds.specs.Table.{kindOf}
+use Rattle.codes.specs.Codes.{roundingOf, rangeOf}
 use Rattle.kinds.specs.Row.{formatOf}
 use Rattle.routes.specs.Route.{routeOf}
 use Rattle.chunk_element.specs.declared.Settings.{Settings}

@@ -6,8 +6,8 @@ ghost use lib.Dec.{eqb};
 ghost use Rattle.cast_spec.specs.Chunk.{inputs};
 ghost use Rattle.chunk_checks.specs.Settings.{settingsBy};
 ghost use Rattle.chunk_checks.specs.Checked.{checkedOf};
+use answers::Answer;
 use chunk_element::Settings;
-use kinds::Answer;
 
 // What the checks come to: the refusal of the first that is not passed, or the call's settings and how many elements it has.
 pub enum Checked {
@@ -28,8 +28,8 @@ fn settings_of(from: u8, to: u8, rounding: u8, range: u8, keys: usize) -> Settin
         source: from_format,
         target: to_format,
         route: routes::route_of(from_format, to_format),
-        rounding: kinds::rounding_of(rounding),
-        range: kinds::range_of(range),
+        rounding: codes::rounding_of(rounding),
+        range: codes::range_of(range),
         sw: source.bytes,
         dw: target.bytes,
         entries: keys / source.bytes,
@@ -71,10 +71,10 @@ pub fn check(
 ) -> Checked
     ensures { λ r. ⌜ r ≡ checkedOf (inputs (now (src .entry)) (now (dst .entry)) (now (keys .entry)) (now (targets .entry)) from to rounding range) ⌝ }
 {
-    if !kinds::codes_listed(from, to, rounding, range) {
+    if !codes::codes_listed(from, to, rounding, range) {
         return Checked::Refused(Answer::UnknownCode);
     }
-    if kinds::wrap_barred(to, range) {
+    if codes::wrap_barred(to, range) {
         return Checked::Refused(Answer::BarredWrap);
     }
     let s = settings_of(from, to, rounding, range, keys.len());

@@ -13,11 +13,11 @@ use Rattle.kinds.specs.Row.{kindIn, FormatRow}
 use Rattle.kinds.specs.declared.Format.{Format}
 use Rattle.kinds.specs.declared.Format.the-variants.{Integer, Float}
 use Rattle.kinds.specs.declared.IntegerFormat.{IntegerFormat}
-use Rattle.kinds.specs.declared.Lookup.{Lookup}
-use Rattle.kinds.specs.declared.Lookup.the-variants.{Missing}
-use Rattle.kinds.specs.declared.Outcome.{Outcome}
-use Rattle.kinds.specs.declared.Fit.{Fit}
-use Rattle.kinds.specs.declared.Answer.the-variants.{Converted}
+use Rattle.answers.specs.declared.Lookup.{Lookup}
+use Rattle.answers.specs.declared.Lookup.the-variants.{Missing}
+use Rattle.answers.specs.declared.Outcome.{Outcome}
+use Rattle.answers.specs.declared.Fit.{Fit}
+use Rattle.answers.specs.declared.Answer.the-variants.{Converted}
 use Rattle.cast_spec.specs.Element.{foundOr, lookupOf, outcomeOf}
 use Rattle.cast_spec.specs.Chunk.{answerNext, entriesFrom}
 use Rattle.cast_spec.proofs.Steps.{no-map}

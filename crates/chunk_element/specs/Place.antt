@@ -6,10 +6,10 @@ use Rattle.patterns.specs.Kind.{bits}
 use Rattle.patterns.specs.Pattern.{asF64}
 use Rattle.patterns.specs.Value.{valueOf}
 use Rattle.kinds.specs.Row.{kindIn}
-use Rattle.kinds.specs.declared.Lookup.{Lookup}
-use Rattle.kinds.specs.declared.Fit.{Fit}
-use Rattle.kinds.specs.declared.Answer.{Answer}
-use Rattle.kinds.specs.declared.Answer.the-variants.{Converted}
+use Rattle.answers.specs.declared.Lookup.{Lookup}
+use Rattle.answers.specs.declared.Fit.{Fit}
+use Rattle.answers.specs.declared.Answer.{Answer}
+use Rattle.answers.specs.declared.Answer.the-variants.{Converted}
 use Rattle.cast_spec.specs.Element.{lookupOf}
 use Rattle.cast_spec.specs.Chunk.{answerNext}
 use Rattle.cast_spec.specs.Fit.{filled}

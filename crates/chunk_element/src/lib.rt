@@ -6,12 +6,12 @@ ghost use Rattle.cast_spec.specs.Element.{outcomeOf};
 ghost use Rattle.cast_spec.specs.Fit.{fitOf};
 ghost use Rattle.chunk_element.specs.Settings.{settingsFor};
 ghost use Rattle.chunk_element.specs.Place.{lookedUp, ElementReady, FitReady, SourceReady, refusedAnswer};
+use answers::Answer;
+use answers::Fit;
+use answers::Lookup;
+use codes::OutOfRangeMode;
 use grid::RoundingMode;
-use kinds::Answer;
-use kinds::Fit;
 use kinds::Format;
-use kinds::Lookup;
-use kinds::OutOfRangeMode;
 use routes::Route;
 
 // What a call converts by: the formats of the two kinds and their route, the two rules, the bytes of a source and of a destination element, and the

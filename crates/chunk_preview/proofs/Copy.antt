@@ -10,11 +10,11 @@ use Rattle.counts.specs.declared.Fared.{Fared}
 use Rattle.hamming.specs.Distance.{distance}
 use Rattle.hamming.proofs.Distances.{same-0, at-most-front}
 use Rattle.hamming.proofs.Bytes.{put-adds, still-behind}
-use Rattle.kinds.specs.declared.Answer.{Answer}
-use Rattle.kinds.specs.declared.Answer.the-variants as A
-use Rattle.kinds.specs.declared.Fit.{Fit}
-use Rattle.kinds.specs.declared.Fit.the-variants.{Pattern}
-use Rattle.kinds.specs.declared.Reply.{Reply}
+use Rattle.answers.specs.declared.Answer.{Answer}
+use Rattle.answers.specs.declared.Answer.the-variants as A
+use Rattle.answers.specs.declared.Fit.{Fit}
+use Rattle.answers.specs.declared.Fit.the-variants.{Pattern}
+use Rattle.answers.specs.declared.Reply.{Reply}
 use Rattle.cast_spec.specs.Chunk.{answerNext, Refuses}
 use Rattle.cast_spec.specs.Element as E
 use Rattle.cast_spec.specs.Element.{outcomeOf}

@@ -3,7 +3,7 @@ use mathlib.Core.Path.{_≡_}
 use mathlib.Core.List.{List}
 use Prim.Native.Nat.{ℕ}
 use Rattle.hamming.specs.Distance.{distance}
-use Rattle.kinds.specs.declared.Preview.{Preview}
+use Rattle.answers.specs.declared.Preview.{Preview}
 use Rattle.cast_spec.specs.Element as E
 use Rattle.chunk_run.specs.Run.{Ran}
 

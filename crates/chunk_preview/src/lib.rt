@@ -2,10 +2,10 @@
 ghost use Rattle.chunk_element.specs.Settings.{settingsFor};
 ghost use Rattle.chunk_run.specs.Run.{RunReady};
 ghost use Rattle.chunk_preview.specs.Foreseen.{Foreseen};
+use answers::Answer;
+use answers::Fit;
+use answers::Preview;
 use chunk_element::Settings;
-use kinds::Answer;
-use kinds::Fit;
-use kinds::Preview;
 
 // The first n elements, by position, up to the first refusal. An element is counted when the next turn begins, as in a run.
 pub fn preview(

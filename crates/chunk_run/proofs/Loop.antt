@@ -15,15 +15,15 @@ use Rattle.counts.specs.Tally.{noTally, counted, oneMoreAt, CountableAt}
 use Rattle.counts.proofs.Tallies as tallies
 use Rattle.counts.specs.declared.Counts.{Counts}
 use Rattle.counts.specs.declared.Fared.{Fared}
-use Rattle.kinds.specs.declared.Answer.{Answer}
-use Rattle.kinds.specs.declared.Reply.{Reply}
+use Rattle.answers.specs.declared.Answer.{Answer}
+use Rattle.answers.specs.declared.Reply.{Reply}
 use Rattle.chunk_element.specs.Settings.{settingsFor}
 use Rattle.chunk_element.specs.Place.{FitReady, refusedAnswer}
 use Rattle.chunk_run.specs.Run.{replyOf, RunReady, Ran, outcomes}
-use Rattle.kinds.specs.declared.Outcome.{Outcome}
-use Rattle.kinds.specs.declared.Outcome.the-variants.{Stored}
-use Rattle.kinds.specs.declared.Fit.{Fit}
-use Rattle.kinds.specs.declared.Fit.the-variants.{Pattern}
+use Rattle.answers.specs.declared.Outcome.{Outcome}
+use Rattle.answers.specs.declared.Outcome.the-variants.{Stored}
+use Rattle.answers.specs.declared.Fit.{Fit}
+use Rattle.answers.specs.declared.Fit.the-variants.{Pattern}
 use Rattle.cast_spec.specs.Fit.{fitOf}
 use Rattle.cast_spec.specs.Chunk.{answerFrom, answerNext, bytesFrom, convertedOf, countsBelow, Refuses}
 use Rattle.bytes_le.specs.Bytes.{Place, fromLe, patternAt, toLe, put}
@@ -31,7 +31,7 @@ use Rattle.bytes_le.proofs.Sums.{length-toLe}
 use Rattle.bytes_le.proofs.Widths.{element-within}
 use Rattle.cast_spec.proofs.Outcomes.{stored-pattern}
 use Rattle.chunk_element.proofs.Elements.{refused-is, target-place}
-use Rattle.kinds.specs.declared.Answer.the-variants as A
+use Rattle.answers.specs.declared.Answer.the-variants as A
 use Rattle.cast_spec.specs.Element as E
 use Rattle.cast_spec.proofs.Runs as runs
 

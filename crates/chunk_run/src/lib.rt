@@ -3,11 +3,11 @@ ghost use mathlib.Core.Path.{_≡_};
 ghost use Rattle.counts.specs.Counts.{countsIn};
 ghost use Rattle.chunk_element.specs.Settings.{settingsFor};
 ghost use Rattle.chunk_run.specs.Run.{replyOf, RunReady, Ran};
+use answers::Answer;
+use answers::Fit;
+use answers::Reply;
 use chunk_element::Settings;
 use counts::Tally;
-use kinds::Answer;
-use kinds::Fit;
-use kinds::Reply;
 
 // The reply of an answer and of a tally.
 pub fn reply(answer: Answer, tally: Tally) -> Reply

@@ -14,9 +14,9 @@ use Rattle.grid.specs.Round.{ruleFor, signed}
 use Rattle.grid.specs.declared.RoundingMode.{RoundingMode}
 use Rattle.grid.proofs.Kept.{pick-signed}
 use Rattle.patterns.specs.Kind.{integer}
-use Rattle.kinds.specs.declared.OutOfRangeMode.{OutOfRangeMode}
-use Rattle.kinds.specs.declared.Fit.{Fit}
-use Rattle.kinds.specs.declared.Fit.the-variants.{NotFinite}
+use Rattle.codes.specs.declared.OutOfRangeMode.{OutOfRangeMode}
+use Rattle.answers.specs.declared.Fit.{Fit}
+use Rattle.answers.specs.declared.Fit.the-variants.{NotFinite}
 use Rattle.cast_spec.specs.Element.{ranged}
 use Rattle.floats.specs.declared.Class.{Class}
 use Rattle.floats.specs.declared.Class.the-variants.{Finite, Infinite, NotANumber}

@@ -23,8 +23,8 @@ use Rattle.counts.specs.Counts.{byPick}
 use Rattle.kinds.specs.Row.{floatFormat, FloatRow}
 use Rattle.counts.specs.declared.Fared.{Fared}
 use Rattle.kinds.specs.declared.FloatFormat.{FloatFormat}
-use Rattle.kinds.specs.declared.OutOfRangeMode.{OutOfRangeMode}
-use Rattle.kinds.specs.declared.Fit.the-variants.{Pattern}
+use Rattle.codes.specs.declared.OutOfRangeMode.{OutOfRangeMode}
+use Rattle.answers.specs.declared.Fit.the-variants.{Pattern}
 use Rattle.floats.specs.Form.{CanonicalClass, scaledOf}
 use Rattle.floats.specs.declared.Class.the-variants.{Finite}
 use Rattle.floats.proofs.Values.{scaled-canonical}

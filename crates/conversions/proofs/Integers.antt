@@ -13,8 +13,8 @@ use Rattle.grid.proofs.Picked.{pick-own}
 use Rattle.grid.proofs.Sides.{exact-is}
 use Rattle.patterns.specs.Kind.{integer}
 use Rattle.patterns.proofs.Floats.{abs-signed}
-use Rattle.kinds.specs.declared.OutOfRangeMode.{OutOfRangeMode}
-use Rattle.kinds.specs.declared.Fit.{Fit}
+use Rattle.codes.specs.declared.OutOfRangeMode.{OutOfRangeMode}
+use Rattle.answers.specs.declared.Fit.{Fit}
 use Rattle.cast_spec.specs.Element.{ranged}
 use Rattle.cast_spec.specs.Fit.{fitOf}
 use Rattle.integers.specs.declared.Integer.{Integer}

@@ -13,8 +13,8 @@ use Rattle.grid.proofs.Sides.{exact-is}
 use Rattle.patterns.specs.Kind.{f64}
 use Rattle.patterns.specs.Pattern.{magBits, nanPattern}
 use Rattle.counts.specs.declared.Fared.the-variants.{Exact}
-use Rattle.kinds.specs.declared.OutOfRangeMode.{OutOfRangeMode}
-use Rattle.kinds.specs.declared.Fit.the-variants.{Pattern}
+use Rattle.codes.specs.declared.OutOfRangeMode.{OutOfRangeMode}
+use Rattle.answers.specs.declared.Fit.the-variants.{Pattern}
 use Rattle.floats.specs.Form.{CanonicalClass, f64Of, finiteBits}
 use Rattle.floats.specs.declared.Class.{Class}
 use Rattle.floats.specs.declared.Class.the-variants.{Finite, Infinite, NotANumber}

@@ -3,8 +3,8 @@ use Prim.Native.Nat.{_*_, _^_}
 use Rattle.grid.specs.Round.{signed}
 use Rattle.grid.specs.declared.RoundingMode.{RoundingMode}
 use Rattle.patterns.specs.Kind.{Kind}
-use Rattle.kinds.specs.declared.OutOfRangeMode.{OutOfRangeMode}
-use Rattle.kinds.specs.declared.Fit.{Fit}
+use Rattle.codes.specs.declared.OutOfRangeMode.{OutOfRangeMode}
+use Rattle.answers.specs.declared.Fit.{Fit}
 use Rattle.cast_spec.specs.Fit.{fitNumber}
 use Rattle.integers.specs.declared.Integer as I
 

@@ -5,16 +5,16 @@ ghost use Rattle.kinds.specs.Row.{integerOf, floatOf, IntegerRow, FloatRow};
 ghost use Rattle.floats.specs.Form.{CanonicalClass};
 ghost use Rattle.narrowing.specs.Fit.{fitFloat};
 ghost use Rattle.conversions.specs.Fit.{fitInteger};
+use answers::Fit;
+use codes::OutOfRangeMode;
 use counts::Fared;
 use floats::Class;
 use floats::Float;
 use grid::RoundingMode;
 use grid::Ternary;
 use integers::Integer;
-use kinds::Fit;
 use kinds::FloatFormat;
 use kinds::IntegerFormat;
-use kinds::OutOfRangeMode;
 
 // A float to an integer kind: rounded to a whole number, which then meets the range.
 pub fn convert_float_to_int(

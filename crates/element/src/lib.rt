@@ -6,13 +6,13 @@ ghost use Rattle.cast_spec.specs.Fit.{filled};
 ghost use Rattle.floats.specs.Form as form;
 ghost use Rattle.element.specs.Element.{FloatPattern, FormatPattern, elementOf, elementF64, CanonicalElement};
 ghost use Rattle.element.specs.Refusal.{RefusalOf};
+use answers::Answer;
+use answers::Fit;
+use answers::Outcome;
 use floats::Float;
 use integers::Integer;
-use kinds::Answer;
-use kinds::Fit;
 use kinds::FloatFormat;
 use kinds::Format;
-use kinds::Outcome;
 
 // An element of any kind: an integer by sign and magnitude, or a float by sign and class.
 pub enum Element {

@@ -6,3 +6,4 @@ pub mod Picked
 pub mod Kept
 pub mod Overrun
 pub mod Sides
+pub mod Tests

@@ -24,11 +24,11 @@ use Rattle.kinds.specs.Row.{integerOf, IntegerRow}
 use Rattle.counts.specs.declared.Fared.{Fared}
 use Rattle.counts.specs.declared.Fared.the-variants.{Clamped, Wrapped}
 use Rattle.kinds.specs.declared.IntegerFormat.{IntegerFormat}
-use Rattle.kinds.specs.declared.OutOfRangeMode.{OutOfRangeMode}
-use Rattle.kinds.specs.declared.OutOfRangeMode.the-variants.{Clamp, None, Wrap}
-use Rattle.kinds.specs.declared.Outcome.the-variants.{Stored}
-use Rattle.kinds.specs.declared.Fit.{Fit}
-use Rattle.kinds.specs.declared.Fit.the-variants.{Pattern, OutOfRange}
+use Rattle.codes.specs.declared.OutOfRangeMode.{OutOfRangeMode}
+use Rattle.codes.specs.declared.OutOfRangeMode.the-variants.{Clamp, None, Wrap}
+use Rattle.answers.specs.declared.Outcome.the-variants.{Stored}
+use Rattle.answers.specs.declared.Fit.{Fit}
+use Rattle.answers.specs.declared.Fit.the-variants.{Pattern, OutOfRange}
 use Rattle.cast_spec.specs.Element.{inRange, nearerEnd, beyond, ranged}
 use Rattle.wrapping.proofs.Residues.{low-bits-mod}
 use Rattle.cast_spec.specs.Fit.{fitOf}

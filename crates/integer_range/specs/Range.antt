@@ -8,9 +8,9 @@ use Rattle.grid.specs.Round.{signed}
 use Rattle.grid.specs.Ternary.{ternaryOf}
 use Rattle.grid.specs.declared.Ternary.{Ternary}
 use Rattle.patterns.specs.Kind.{Kind, integer, binary, highInt}
-use Rattle.kinds.specs.declared.OutOfRangeMode.{OutOfRangeMode}
-use Rattle.kinds.specs.declared.OutOfRangeMode.the-variants.{None, Clamp, Wrap}
-use Rattle.kinds.specs.declared.Fit.{Fit}
+use Rattle.codes.specs.declared.OutOfRangeMode.{OutOfRangeMode}
+use Rattle.codes.specs.declared.OutOfRangeMode.the-variants.{None, Clamp, Wrap}
+use Rattle.answers.specs.declared.Fit.{Fit}
 use Rattle.cast_spec.specs.Element.{ranged}
 use Rattle.cast_spec.specs.Fit.{fitOf}
 

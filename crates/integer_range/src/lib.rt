@@ -4,11 +4,11 @@ ghost use mathlib.Core.Bool.{cond};
 ghost use Rattle.counts.specs.Counts.{byPick};
 ghost use Rattle.kinds.specs.Row.{integerOf, IntegerRow};
 ghost use Rattle.integer_range.specs.Range.{refusing, clamping, endMag, RangeApplied};
+use answers::Fit;
+use codes::OutOfRangeMode;
 use counts::Fared;
 use grid::Ternary;
-use kinds::Fit;
 use kinds::IntegerFormat;
-use kinds::OutOfRangeMode;
 
 // The magnitude of an integer kind's lowest or highest number.
 fn end_magnitude(to: IntegerFormat, negative: bool) -> u64

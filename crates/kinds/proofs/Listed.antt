@@ -1,16 +1,15 @@
--- The listed kinds: what the row of a code has, that it gives its kind back, and that the kinds of listed codes are listed.
+-- The listed kinds: what the row of a code has, and that it gives its kind back.
 use mathlib.Core.Path.{_≡_, refl, sym, ap, subst}
-use mathlib.Core.Bool.{Bool, true, false, _&&_, cond}
+use mathlib.Core.Bool.{Bool, true, false, cond}
 use mathlib.Core.Logic.{inl, inr}
 use Prim.Native.Nat.{ℕ, _-_, _*_, _^_, _≤_, _<_}
 use native.Mathlib.Omega.{arith}
-use lib.Dec.{eqb, leb, ltb}
+use lib.Dec.{eqb, leb}
 use lib.Pow.{pow-mono, pow-pos}
-use borrow.Author.Tests.{le-ltb, lt-ltb, ltb-true, le-leb, lt-leb}
+use borrow.Author.Tests.{le-ltb, lt-ltb, le-leb, lt-leb}
 use Rattle.grid.proofs.Neighbours.{cut}
 use Rattle.patterns.specs.Kind.{Kind, integer, f32, f64, isFloat, width}
-use Rattle.kinds.proofs.Numbers.{parts}
-use Rattle.kinds.specs.Codes.{kindOf}
+use Rattle.kinds.specs.Table.{kindOf}
 use Rattle.kinds.specs.Row.{integerFormat, formatOf, rowOf, kindIn, IntegerRow, FormatRow}
 use Rattle.kinds.specs.declared.KindRow.{KindRow}
 
@@ -66,9 +65,3 @@ format-row code h = by-kind (λ (k : Kind). FormatRow (formatOf k)) integer-row 
 pub kind-back : (code : ℕ) → code < 10 → kindIn (formatOf (kindOf code)) ≡ kindOf code
 unfolding formatOf
 kind-back code h = by-kind (λ (k : Kind). kindIn (formatOf k) ≡ k) (λ s c l. refl) refl refl code h
-
--- where a call's codes are listed, its kinds are
-pub listed-kinds : (f t o g : ℕ) → ltb f 10 && ltb t 10 && ltb o 5 && ltb g 3 ≡ true → (f < 10) × (t < 10)
-listed-kinds f t o g e =
-    let p = parts (ltb f 10) (ltb t 10) (parts (ltb f 10 && ltb t 10) (ltb o 5) (parts (ltb f 10 && ltb t 10 && ltb o 5) (ltb g 3) e .0) .0) in
-    (ltb-true f 10 (p .0), ltb-true t 10 (p .1))

@@ -1,3 +1,2 @@
-pub mod Codes
+pub mod Table
 pub mod Row
-pub mod Answer

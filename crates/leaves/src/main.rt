@@ -6,15 +6,15 @@ ghost use lib.ListN.{length};
 ghost use Rattle.bytes_le.specs.Bytes.{Width};
 ghost use Rattle.integers.specs.Magnitude.{IntegerPattern};
 ghost use Rattle.integers.specs.Precision.{Precision};
+use answers::Fit;
+use answers::Lookup;
+use codes::OutOfRangeMode;
 use counts::Fared;
 use floats::Class;
 use floats::Float;
 use grid::Rounded;
 use grid::RoundingMode;
 use grid::Ternary;
-use kinds::Fit;
-use kinds::Lookup;
-use kinds::OutOfRangeMode;
 use libc::STDOUT_FILENO;
 
 fn text(s: &[u8]) {

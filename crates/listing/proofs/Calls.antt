@@ -7,11 +7,11 @@ use native.Mathlib.Omega.{arith}
 use lib.ListN.{length, take, drop, replicate, length-append, length-replicate}
 use lib.Seq.{take-at, length-take-le}
 use Rattle.patterns.specs.Kind.{width}
-use Rattle.kinds.specs.Answer.{positionOf}
-use Rattle.kinds.specs.Codes.{kindOf}
+use Rattle.answers.specs.Answer.{positionOf}
+use Rattle.kinds.specs.Table.{kindOf}
 use Rattle.kinds.specs.Row.{rowOf}
-use Rattle.kinds.specs.declared.Answer.{Answer}
-use Rattle.kinds.specs.declared.Reply.{Reply}
+use Rattle.answers.specs.declared.Answer.{Answer}
+use Rattle.answers.specs.declared.Reply.{Reply}
 use Rattle.kinds.specs.declared.KindRow.{KindRow}
 use Rattle.kinds.proofs.Listed.{row-width}
 use Rattle.cast_spec.specs.Chunk.{Inputs, inputs, answerOf, destinationOf}

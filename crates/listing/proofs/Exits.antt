@@ -12,10 +12,11 @@ use borrow.Author.Tests.{lt-ltb, le-ltb, le-leb, lt-leb, eq-eqb, ne-eqb, ltb-fal
 use borrow.Rule.Slice.PartAt.{part-to-end}
 use Rattle.bytes_le.specs.Bytes.{Place}
 use Rattle.patterns.specs.Kind.{width}
-use Rattle.kinds.specs.Codes.{kindOf}
+use Rattle.kinds.specs.Table.{kindOf}
 use Rattle.kinds.specs.Row.{rowOf}
 use Rattle.kinds.specs.declared.KindRow.{KindRow}
-use Rattle.kinds.proofs.Listed.{row-width, listed-kinds}
+use Rattle.kinds.proofs.Listed.{row-width}
+use Rattle.codes.proofs.Listed.{listed-kinds}
 use Rattle.cast_spec.specs.Chunk.{codesListed, wrapPermitted}
 use Rattle.listing.specs.declared.Layout.{Layout}
 use Rattle.report.specs.Report.{refusedLine}

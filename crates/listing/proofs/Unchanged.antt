@@ -8,10 +8,10 @@ use native.Mathlib.Omega.{arith}
 use lib.ListN.{length, drop}
 use Rattle.bytes_le.specs.Bytes.{toLe, patternAt}
 use Rattle.bytes_le.proofs.Places.{first-place, next-place}
-use Rattle.kinds.specs.Answer.{numberOf, positionOf}
-use Rattle.kinds.specs.declared.Answer.{Answer}
-use Rattle.kinds.specs.declared.Outcome.{Outcome}
-use Rattle.kinds.specs.declared.Outcome.the-variants.{Stored, NanOrInf, OutOfRange, FloatOutOfRange}
+use Rattle.answers.specs.Answer.{numberOf, positionOf}
+use Rattle.answers.specs.declared.Answer.{Answer}
+use Rattle.answers.specs.declared.Outcome.{Outcome}
+use Rattle.answers.specs.declared.Outcome.the-variants.{Stored, NanOrInf, OutOfRange, FloatOutOfRange}
 use Rattle.cast_spec.specs.Chunk.{Inputs, inputs, sw, dw, Check, checksOf, allPass, tested, callOf, settingsOf, outcomeAt, answerNext, answerFrom, answerOf, bytesNext, bytesFrom, destinationOf}
 use Rattle.cast_spec.proofs.Checks.{EachRefusal, tested-by}
 use Rattle.report.specs.Report.{converted, firstLine, line, lines, report}

@@ -7,7 +7,7 @@ use lib.Dec.{eqb, ltb, leb}
 use lib.ListN.{length, getD, take, drop, replicate}
 use Rattle.bytes_le.specs.Bytes.{fromLe}
 use Rattle.patterns.specs.Kind.{width}
-use Rattle.kinds.specs.Codes.{kindOf}
+use Rattle.kinds.specs.Table.{kindOf}
 use Rattle.cast_spec.specs.Chunk.{Inputs, inputs, sw, dw, codesListed, wrapPermitted, answerOf, destinationOf}
 use Rattle.report.specs.Report.{refusedLine, report}
 

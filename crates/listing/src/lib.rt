@@ -66,10 +66,10 @@ fn refusal(input: &[u8]) -> usize
     if input.len() < 6 {
         return 1;
     }
-    if !kinds::codes_listed(input[0], input[1], input[2], input[3]) {
+    if !codes::codes_listed(input[0], input[1], input[2], input[3]) {
         return 1;
     }
-    if kinds::wrap_barred(input[1], input[3]) {
+    if codes::wrap_barred(input[1], input[3]) {
         return 8;
     }
     let map_end = layout_of(input).elements;

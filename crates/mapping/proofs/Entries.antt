@@ -11,8 +11,8 @@ use Rattle.bytes_le.proofs.Sums.{byte-patterns}
 use Rattle.bytes_le.proofs.Widths.{element-place}
 use Rattle.patterns.specs.Kind.{Kind}
 use Rattle.patterns.specs.Value.{valueOf}
-use Rattle.kinds.specs.declared.Lookup.{Lookup}
-use Rattle.kinds.specs.declared.Lookup.the-variants.{Found, Missing}
+use Rattle.answers.specs.declared.Lookup.{Lookup}
+use Rattle.answers.specs.declared.Lookup.the-variants.{Found, Missing}
 use Rattle.cast_spec.specs.Element.{matches, lookupOf}
 use Rattle.cast_spec.specs.Chunk.{entriesFrom}
 use Rattle.mapping.specs.Map.{MapBytes}

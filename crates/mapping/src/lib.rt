@@ -8,8 +8,8 @@ ghost use Rattle.kinds.specs.Row.{floatOf, FloatRow};
 ghost use Rattle.cast_spec.specs.Element.{matches, lookupOf};
 ghost use Rattle.cast_spec.specs.Chunk.{entriesFrom};
 ghost use Rattle.mapping.specs.Map.{FloatPatterns, MapBytes};
+use answers::Lookup;
 use kinds::FloatFormat;
-use kinds::Lookup;
 
 // Whether a float matches a key: equal patterns, two NaNs, or two zeros. The format has p significant bits and w bits of exponent field.
 pub fn matches_float(a: u64, key: u64, p: u32, w: u32) -> bool

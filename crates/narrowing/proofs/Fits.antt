@@ -25,11 +25,11 @@ use Rattle.patterns.specs.Pattern.{infinity, magBits, nanPattern, patternOf, qu
 use Rattle.patterns.proofs.Floats.{abs-signed, bits-in-range, bits-past-range, mag-back, sign-is}
 use Rattle.counts.specs.Counts.{byPick}
 use Rattle.counts.specs.declared.Fared.the-variants.{Exact}
-use Rattle.kinds.specs.declared.OutOfRangeMode.{OutOfRangeMode}
-use Rattle.kinds.specs.declared.OutOfRangeMode.the-variants.{None, Clamp, Wrap}
-use Rattle.kinds.specs.declared.Outcome.{Outcome}
-use Rattle.kinds.specs.declared.Outcome.the-variants.{Stored}
-use Rattle.kinds.specs.declared.Fit.the-variants.{Pattern, OutOfRange}
+use Rattle.codes.specs.declared.OutOfRangeMode.{OutOfRangeMode}
+use Rattle.codes.specs.declared.OutOfRangeMode.the-variants.{None, Clamp, Wrap}
+use Rattle.answers.specs.declared.Outcome.{Outcome}
+use Rattle.answers.specs.declared.Outcome.the-variants.{Stored}
+use Rattle.answers.specs.declared.Fit.the-variants.{Pattern, OutOfRange}
 use Rattle.cast_spec.specs.Element.{beyond, ranged}
 use Rattle.cast_spec.proofs.Steps.{by-range}
 use Rattle.floats.specs.Form.{f64Of}

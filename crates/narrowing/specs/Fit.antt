@@ -10,10 +10,10 @@ use Rattle.patterns.specs.Kind.{Kind, integer, binary, f64}
 use Rattle.patterns.specs.Pattern.{infinity, nanPattern, withSign}
 use Rattle.counts.specs.Counts.{byPick}
 use Rattle.counts.specs.declared.Fared.the-variants.{Exact, Clamped}
-use Rattle.kinds.specs.declared.OutOfRangeMode.{OutOfRangeMode}
-use Rattle.kinds.specs.declared.OutOfRangeMode.the-variants.{None, Clamp, Wrap}
-use Rattle.kinds.specs.declared.Fit.{Fit}
-use Rattle.kinds.specs.declared.Fit.the-variants.{Pattern, NotFinite, OutOfRange}
+use Rattle.codes.specs.declared.OutOfRangeMode.{OutOfRangeMode}
+use Rattle.codes.specs.declared.OutOfRangeMode.the-variants.{None, Clamp, Wrap}
+use Rattle.answers.specs.declared.Fit.{Fit}
+use Rattle.answers.specs.declared.Fit.the-variants.{Pattern, NotFinite, OutOfRange}
 use Rattle.cast_spec.specs.Fit.{fitNumber}
 use Rattle.floats.specs.Form.{f64Of}
 use Rattle.floats.specs.declared.Class.{Class}

@@ -7,6 +7,8 @@ ghost use Rattle.patterns.specs.Pattern.{quiet};
 ghost use Rattle.floats.specs.Form.{Canonical, CanonicalClass};
 ghost use Rattle.narrowing.specs.Format.{Narrower, FormatBits, Rebiasable, narrowed, rebiased};
 ghost use Rattle.narrowing.specs.Fit.{fitBits, fitFloat};
+use answers::Fit;
+use codes::OutOfRangeMode;
 use counts::Fared;
 use floats::Class;
 use floats::Float;
@@ -14,8 +16,6 @@ use floats::Scaled;
 use grid::Rounded;
 use grid::RoundingMode;
 use grid::Ternary;
-use kinds::Fit;
-use kinds::OutOfRangeMode;
 
 // The bits below the sign of a finite magnitude, rounded to p significant bits and the smallest spacing 2^s; those of an infinity or more where the
 // format is overrun.

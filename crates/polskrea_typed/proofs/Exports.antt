@@ -35,10 +35,10 @@ use denote.Triple.Call.{calls-at}
 use denote.Triple.Entry.{Vals, onEntry}
 use denote.Plain.{uint-makes, uint-lawful, uint-vals, uint-tells}
 use denote.Struct.Declared.{row}
-use Rattle.kinds.proofs.Reply.Laws as R′
-use Rattle.kinds.proofs.Reply as R
-use Rattle.kinds.specs.declared.Reply.{Reply}
-use Rattle.kinds.specs.Answer.{numberOf}
+use Rattle.answers.proofs.Reply.Laws as R′
+use Rattle.answers.proofs.Reply as R
+use Rattle.answers.specs.declared.Reply.{Reply}
+use Rattle.answers.specs.Answer.{numberOf}
 use Rattle.typed.proofs.Conversions.{Pair, ended, clauses, Converts}
 use Rattle.answer_fields.proofs.Exported.{exported}
 use Rattle.answer_fields.specs.Returned.{fieldsOf}

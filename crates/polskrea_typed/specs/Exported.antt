@@ -2,7 +2,7 @@
 use mathlib.Core.List.{List}
 use Prim.Native.Nat.{ℕ}
 use Rattle.patterns.specs.Kind.{width}
-use Rattle.kinds.specs.Codes.{kindOf}
+use Rattle.kinds.specs.Table.{kindOf}
 use Rattle.cast_spec.specs.Element.{Entry}
 use Rattle.typed.specs.Typed.{typedInputs, bytesOf}
 use Rattle.answer_fields.specs.Returned.{Returned}

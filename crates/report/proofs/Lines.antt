@@ -9,7 +9,7 @@ use native.Mathlib.Omega.{arith}
 use lib.ListN.{length, take, drop, length-append}
 use Rattle.bytes_le.specs.Bytes.{fromLe, patternAt}
 use Rattle.bytes_le.proofs.Widths.{element-within}
-use Rattle.kinds.specs.Answer.{namesPosition}
+use Rattle.answers.specs.Answer.{namesPosition}
 use Rattle.text.specs.Text.{digits, decimal}
 use Rattle.text.specs.Wrote.{Wrote}
 use Rattle.report.specs.Report.{ok, refused, at, newline, okLine, refusedLine, line, lines}

@@ -8,9 +8,9 @@ use native.Mathlib.Omega.{arith}
 use lib.Dec.{eqb}
 use lib.ListN.{length, length-append}
 use borrow.Author.Tests.{eq-eqb, ne-eqb}
-use Rattle.kinds.specs.Answer.{numberOf, namesPosition, positionOf}
-use Rattle.kinds.specs.declared.Answer.{Answer}
-use Rattle.kinds.specs.declared.Answer.the-variants.{Converted, UnknownCode, BrokenMap, BrokenElement, LengthMismatch, NanOrInf, OutOfRange, FloatOutOfRange, BarredWrap}
+use Rattle.answers.specs.Answer.{numberOf, namesPosition, positionOf}
+use Rattle.answers.specs.declared.Answer.{Answer}
+use Rattle.answers.specs.declared.Answer.the-variants.{Converted, UnknownCode, BrokenMap, BrokenElement, LengthMismatch, NanOrInf, OutOfRange, FloatOutOfRange, BarredWrap}
 use Rattle.text.specs.Text.{decimal}
 use Rattle.text.specs.Wrote.{Wrote}
 use Rattle.report.specs.Report.{refused, at, newline, okLine, refusedLine, lines, report}

@@ -4,8 +4,8 @@ use mathlib.Core.List.{List, [], _∷_, _++_}
 use Prim.Native.Nat.{ℕ, zero, suc, _*_}
 use lib.Dec.{eqb}
 use Rattle.bytes_le.specs.Bytes.{patternAt}
-use Rattle.kinds.specs.Answer.{numberOf, namesPosition, positionOf}
-use Rattle.kinds.specs.declared.Answer.{Answer}
+use Rattle.answers.specs.Answer.{numberOf, namesPosition, positionOf}
+use Rattle.answers.specs.declared.Answer.{Answer}
 use Rattle.text.specs.Text.{digits, decimal}
 
 -- ---- words

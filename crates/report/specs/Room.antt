@@ -3,8 +3,8 @@ use mathlib.Core.List.{List}
 use Prim.Native.Nat.{ℕ, _+_, _*_, _≤_, _<_}
 use lib.ListN.{length}
 use Rattle.bytes_le.specs.Bytes.{Place, Width}
-use Rattle.kinds.specs.Answer.{positionOf}
-use Rattle.kinds.specs.declared.Answer.{Answer}
+use Rattle.answers.specs.Answer.{positionOf}
+use Rattle.answers.specs.declared.Answer.{Answer}
 
 -- a line of two digits for each byte and its end fits at the place a of d
 pub record LineFits (d : List ℕ) (a : ℕ) (bytes : List ℕ) (from w : ℕ) : Type 0 where

@@ -2,14 +2,14 @@
 ghost use mathlib.Core.Path.{_≡_};
 ghost use Rattle.steps.specs.Steps.{stepped};
 ghost use Rattle.routes.specs.Route.{integerRoute, floatRoute, routeOf, sourceOf, targetOf, RouteRow, SourcePattern};
+use answers::Fit;
+use answers::Lookup;
+use codes::OutOfRangeMode;
 use counts::Fared;
 use grid::RoundingMode;
-use kinds::Fit;
 use kinds::FloatFormat;
 use kinds::Format;
 use kinds::IntegerFormat;
-use kinds::Lookup;
-use kinds::OutOfRangeMode;
 
 // Which of the four conversions two kinds take, with the format of each, or that they are the same kind; settled once for a call.
 pub enum Route {
@@ -76,7 +76,7 @@ pub fn step(b: u64, found: Lookup, route: Route, mode: RoundingMode, range: OutO
     ensures { λ r. ⌜ r ≡ stepped found (sourceOf route) (targetOf route) mode range b ⌝ }
 {
     if let Lookup::Found(pattern) = found {
-        return kinds::mapped(pattern);
+        return answers::mapped(pattern);
     }
     match route {
         Route::Same(_) => Fit::Pattern {

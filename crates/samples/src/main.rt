@@ -3,8 +3,8 @@
 ghost use mathlib.Core.Path.{_≡_};
 ghost use Prim.Native.Nat.{_≤_, _+_};
 ghost use lib.ListN.{length};
+use answers::Reply;
 use counts::Counts;
-use kinds::Reply;
 use libc::STDOUT_FILENO;
 
 fn wide(x: u8) -> u64 {
@@ -35,11 +35,11 @@ fn print_counts(c: Counts) {
 fn print_reply(r: Reply, d: &[u8]) {
     let a = r.answer;
     let c = r.counts;
-    let number = kinds::number(a);
+    let number = answers::number(a);
     io::print_decimal(STDOUT_FILENO, wide(number));
-    if kinds::names_position(number as usize) {
+    if answers::names_position(number as usize) {
         io::write_all(STDOUT_FILENO, b" at ");
-        io::print_decimal(STDOUT_FILENO, kinds::position(a) as u64);
+        io::print_decimal(STDOUT_FILENO, answers::position(a) as u64);
     }
     io::write_all(STDOUT_FILENO, b": ");
     print_bytes(d);

@@ -10,9 +10,9 @@ use Rattle.patterns.specs.Kind.{Kind, integer, binary, f32, f64, gridOf}
 use Rattle.patterns.specs.Value.{Value, nan, inf, num, negative, valueOf}
 use Rattle.patterns.specs.Pattern.{asF64From, infinity, nanPattern}
 use Rattle.patterns.proofs.Floats.{infinity-sign}
-use Rattle.kinds.specs.declared.OutOfRangeMode.{OutOfRangeMode}
+use Rattle.codes.specs.declared.OutOfRangeMode.{OutOfRangeMode}
 use Rattle.counts.specs.declared.Fared.the-variants.{Exact}
-use Rattle.kinds.specs.declared.Fit.the-variants.{Pattern}
+use Rattle.answers.specs.declared.Fit.the-variants.{Pattern}
 use Rattle.cast_spec.specs.Element.{converted}
 use Rattle.floats.specs.Form.{classFor, f64Of, floatOf, scaledOf}
 use Rattle.floats.proofs.Values.{Formed, f32-formed, f64-formed}

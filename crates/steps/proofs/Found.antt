@@ -1,12 +1,12 @@
 -- The fit of an element for which the map found a target, or none.
 use mathlib.Core.Path.{_≡_, refl, sym, ap}
 use Prim.Native.Nat.{ℕ}
-use Rattle.kinds.specs.declared.Fit.{Fit}
+use Rattle.answers.specs.declared.Fit.{Fit}
 use Rattle.counts.specs.declared.Fared.the-variants.{Mapped}
-use Rattle.kinds.specs.declared.Fit.the-variants.{Pattern}
-use Rattle.kinds.specs.declared.Lookup.{Lookup}
-use Rattle.kinds.specs.declared.Lookup.the-variants.{Found, Missing}
-use Rattle.kinds.specs.declared.Outcome.{Outcome}
+use Rattle.answers.specs.declared.Fit.the-variants.{Pattern}
+use Rattle.answers.specs.declared.Lookup.{Lookup}
+use Rattle.answers.specs.declared.Lookup.the-variants.{Found, Missing}
+use Rattle.answers.specs.declared.Outcome.{Outcome}
 use Rattle.cast_spec.specs.Element.{foundOr}
 use Rattle.cast_spec.specs.Fit.{fitOf}
 use Rattle.steps.specs.Steps.{foundFit}

@@ -8,7 +8,7 @@ use Rattle.grid.specs.declared.RoundingMode.{RoundingMode}
 use Rattle.patterns.specs.Kind.{Kind, gridOf, integer}
 use Rattle.patterns.specs.Value.{negative}
 use Rattle.patterns.specs.Pattern.{asF64}
-use Rattle.kinds.specs.declared.OutOfRangeMode.{OutOfRangeMode}
+use Rattle.codes.specs.declared.OutOfRangeMode.{OutOfRangeMode}
 use Rattle.cast_spec.specs.Element.{converted, ranged}
 use Rattle.cast_spec.specs.Fit.{fitOf, unmapped}
 use Rattle.cast_spec.proofs.Filled.{fit-any}

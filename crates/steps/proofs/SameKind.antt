@@ -16,12 +16,12 @@ use Rattle.patterns.specs.Pattern.{asF64, nanPattern, patternOf, withSign}
 use Rattle.patterns.proofs.AnyKind.{lowest-in, pattern-only, sound, unit-pos}
 use Rattle.patterns.proofs.Integers.{lowIn, value-in-range, valueIn}
 use Rattle.patterns.proofs.Floats.{abs-signed, infinity-bits, infinity-sign, number-of-format, signed-again}
-use Rattle.kinds.specs.declared.OutOfRangeMode.{OutOfRangeMode}
+use Rattle.codes.specs.declared.OutOfRangeMode.{OutOfRangeMode}
 use Rattle.grid.specs.declared.Ternary.{Ternary}
 use Rattle.grid.proofs.Sides.{exact-is}
 use Rattle.counts.specs.Counts.{byPick}
 use Rattle.counts.specs.declared.Fared.the-variants.{Exact}
-use Rattle.kinds.specs.declared.Outcome.the-variants.{Stored}
+use Rattle.answers.specs.declared.Outcome.the-variants.{Stored}
 use Rattle.cast_spec.specs.Element.{Settings, converted, ranged}
 use Rattle.integers.specs.Magnitude.{magnitudeOf}
 use Rattle.integers.proofs.Magnitudes.{magnitude-value}

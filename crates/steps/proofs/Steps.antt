@@ -10,10 +10,10 @@ use Rattle.kinds.specs.Row.{floatFormat, floatOf, kindIn, FloatRow, FormatRow}
 use Rattle.kinds.specs.declared.FloatFormat.{FloatFormat}
 use Rattle.kinds.specs.declared.Format.{Format}
 use Rattle.kinds.specs.declared.Format.the-variants.{Integer, Float}
-use Rattle.kinds.specs.declared.Lookup.{Lookup}
-use Rattle.kinds.specs.declared.OutOfRangeMode.{OutOfRangeMode}
+use Rattle.answers.specs.declared.Lookup.{Lookup}
+use Rattle.codes.specs.declared.OutOfRangeMode.{OutOfRangeMode}
 use Rattle.counts.specs.declared.Fared.the-variants.{Exact}
-use Rattle.kinds.specs.declared.Fit.the-variants.{Pattern}
+use Rattle.answers.specs.declared.Fit.the-variants.{Pattern}
 use Rattle.floats.specs.Form as form
 use Rattle.floats.specs.declared.Float as F
 use Rattle.floats.proofs.Values.{Formed}

@@ -2,12 +2,12 @@
 use Prim.Native.Nat.{ℕ}
 use Rattle.grid.specs.declared.RoundingMode.{RoundingMode}
 use Rattle.patterns.specs.Kind.{Kind}
-use Rattle.kinds.specs.declared.Lookup.{Lookup}
-use Rattle.kinds.specs.declared.Lookup.the-variants.{Found, Missing}
-use Rattle.kinds.specs.declared.OutOfRangeMode.{OutOfRangeMode}
+use Rattle.answers.specs.declared.Lookup.{Lookup}
+use Rattle.answers.specs.declared.Lookup.the-variants.{Found, Missing}
+use Rattle.codes.specs.declared.OutOfRangeMode.{OutOfRangeMode}
 use Rattle.counts.specs.declared.Fared.the-variants.{Mapped}
-use Rattle.kinds.specs.declared.Fit.{Fit}
-use Rattle.kinds.specs.declared.Fit.the-variants.{Pattern}
+use Rattle.answers.specs.declared.Fit.{Fit}
+use Rattle.answers.specs.declared.Fit.the-variants.{Pattern}
 use Rattle.cast_spec.specs.Fit.{fitOf, unmapped}
 
 -- a fit, unless the map found a target

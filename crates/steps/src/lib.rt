@@ -6,14 +6,14 @@ ghost use Rattle.floats.specs.Form.{CanonicalClass};
 ghost use Rattle.narrowing.specs.Fit.{fitFloat};
 ghost use Rattle.conversions.specs.Fit.{fitInteger};
 ghost use Rattle.steps.specs.Steps.{foundFit};
+use answers::Fit;
+use answers::Lookup;
+use codes::OutOfRangeMode;
 use floats::Float;
 use grid::RoundingMode;
 use integers::Integer;
-use kinds::Fit;
 use kinds::FloatFormat;
 use kinds::IntegerFormat;
-use kinds::Lookup;
-use kinds::OutOfRangeMode;
 
 // From an integer kind to an integer kind.
 pub fn step_int_to_int(x: Integer, found: Lookup, to: IntegerFormat, range: OutOfRangeMode) -> Fit
@@ -21,7 +21,7 @@ pub fn step_int_to_int(x: Integer, found: Lookup, to: IntegerFormat, range: OutO
     ensures { λ r. ⌜ ((mode : RoundingMode) → r ≡ foundFit found (fitInteger (integerOf to) mode range x)) ⌝ }
 {
     if let Lookup::Found(pattern) = found {
-        return kinds::mapped(pattern);
+        return answers::mapped(pattern);
     }
     conversions::convert_int_to_int(x, to, range)
 }
@@ -38,7 +38,7 @@ pub fn step_int_to_float(
     ensures { λ r. ⌜ r ≡ foundFit found (fitInteger (floatOf to) mode range x) ⌝ }
 {
     if let Lookup::Found(pattern) = found {
-        return kinds::mapped(pattern);
+        return answers::mapped(pattern);
     }
     conversions::convert_int_to_float(x, to, mode, range)
 }
@@ -55,7 +55,7 @@ pub fn step_float_to_int(
     ensures { λ r. ⌜ r ≡ foundFit found (fitFloat (integerOf to) mode range x) ⌝ }
 {
     if let Lookup::Found(pattern) = found {
-        return kinds::mapped(pattern);
+        return answers::mapped(pattern);
     }
     conversions::convert_float_to_int(x, to, mode, range)
 }
@@ -72,7 +72,7 @@ pub fn step_float_to_float(
     ensures { λ r. ⌜ r ≡ foundFit found (fitFloat (floatOf to) mode range x) ⌝ }
 {
     if let Lookup::Found(pattern) = found {
-        return kinds::mapped(pattern);
+        return answers::mapped(pattern);
     }
     conversions::convert_float_to_float(x, to, mode, range)
 }

@@ -50,17 +50,17 @@ use denote.Plain.{uint-makes, uint-vals, uint-tells, uint-lawful}
 use denote.Triple.Statement.{Contract, Triple}
 use Rattle.patterns.specs.Kind.{Kind, bits}
 use Rattle.patterns.specs.Value.{valueOf}
-use Rattle.kinds.specs.declared.Answer.{Answer}
+use Rattle.answers.specs.declared.Answer.{Answer}
 use Rattle.counts.specs.declared.Counts.{Counts}
-use Rattle.kinds.specs.declared.Lookup.{Lookup}
-use Rattle.kinds.specs.declared.Reply.{Reply}
-use Rattle.kinds.specs.Codes.{kindOf}
+use Rattle.answers.specs.declared.Lookup.{Lookup}
+use Rattle.answers.specs.declared.Reply.{Reply}
+use Rattle.kinds.specs.Table.{kindOf}
 use Rattle.counts.specs.Counts.{countsIn}
 use Rattle.counts.specs.Tally.{noTally, Countable}
-use Rattle.kinds.proofs.Reply as R
-use Rattle.kinds.proofs.Reply.Laws as R′
-use Rattle.kinds.proofs.Lookup as F
-use Rattle.kinds.proofs.Lookup.Laws as F′
+use Rattle.answers.proofs.Reply as R
+use Rattle.answers.proofs.Reply.Laws as R′
+use Rattle.answers.proofs.Lookup as F
+use Rattle.answers.proofs.Lookup.Laws as F′
 use Rattle.cast_spec.specs.Element.{lookupOf}
 use Rattle.typed_entries.proofs.Lookups.{EntryType}
 use Rattle.typed_states.proofs.State.Laws as S′

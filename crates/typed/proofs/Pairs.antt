@@ -12,7 +12,7 @@ use Rattle.bytes_le.specs.Bytes.{toLe}
 use Rattle.patterns.specs.Pattern.{nanPattern}
 use Rattle.patterns.specs.Kind.{f64}
 use Rattle.counts.specs.declared.Fared.{Fared}
-use Rattle.kinds.specs.declared.Outcome.the-variants.{Stored}
+use Rattle.answers.specs.declared.Outcome.the-variants.{Stored}
 use Rattle.cast_spec.specs.Element.{outcomeOf}
 use Rattle.typed_values.proofs.Signed.{again}
 use Rattle.typed_values.specs.Bits.{f64Bits, f32Bits, i64Bits, u8Bits, i32Bits, u8Of, i32Of, f32Of}

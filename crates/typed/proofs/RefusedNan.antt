@@ -17,20 +17,20 @@ use Rattle.patterns.specs.Value.{Value, nan, inf, num, negative, valueOf}
 use Rattle.patterns.specs.Pattern.{patternOf, infinity, nanPattern, asF64, asF64From}
 use Rattle.patterns.proofs.Floats.{inf-back}
 use Rattle.patterns.proofs.Ieee.{kindFor}
-use Rattle.kinds.specs.Codes.{kindOf}
+use Rattle.kinds.specs.Table.{kindOf}
 use Rattle.counts.specs.Counts.{byPick}
 use Rattle.counts.specs.declared.Fared.{Fared}
-use Rattle.kinds.specs.declared.OutOfRangeMode.{OutOfRangeMode}
-use Rattle.kinds.specs.declared.OutOfRangeMode.the-variants.{None, Clamp, Wrap}
-use Rattle.kinds.specs.declared.Lookup.{Lookup}
-use Rattle.kinds.specs.declared.Lookup.the-variants.{Found, Missing}
-use Rattle.kinds.specs.declared.Outcome.{Outcome}
-use Rattle.kinds.specs.declared.Outcome.the-variants.{Stored, NanOrInf, OutOfRange, FloatOutOfRange}
-use Rattle.kinds.specs.declared.Answer.{Answer}
-use Rattle.kinds.specs.declared.Answer.the-variants as A
-use Rattle.kinds.specs.declared.Reply.{Reply}
+use Rattle.codes.specs.declared.OutOfRangeMode.{OutOfRangeMode}
+use Rattle.codes.specs.declared.OutOfRangeMode.the-variants.{None, Clamp, Wrap}
+use Rattle.answers.specs.declared.Lookup.{Lookup}
+use Rattle.answers.specs.declared.Lookup.the-variants.{Found, Missing}
+use Rattle.answers.specs.declared.Outcome.{Outcome}
+use Rattle.answers.specs.declared.Outcome.the-variants.{Stored, NanOrInf, OutOfRange, FloatOutOfRange}
+use Rattle.answers.specs.declared.Answer.{Answer}
+use Rattle.answers.specs.declared.Answer.the-variants as A
+use Rattle.answers.specs.declared.Reply.{Reply}
 use Rattle.cast_spec.specs.Element.{Settings, lookupOf, foundOr, inRange, beyond, converted, outcomeOf}
-use Rattle.kinds.specs.Answer.{Values, elementValues, outcomeNumber, outcomeValues}
+use Rattle.answers.specs.Answer.{Values, elementValues, outcomeNumber, outcomeValues}
 use Rattle.cast_spec.specs.Chunk.{Inputs, callOf, outcomeAt}
 use Rattle.cast_spec.specs.Demand1.{Demand1}
 use Rattle.cast_spec.specs.Contract.{Contract}

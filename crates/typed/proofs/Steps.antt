@@ -6,16 +6,16 @@ use lib.ListN.{set}
 use types.Run.{OneOf}
 use denote.Enum.Declared.{tagOf}
 use Rattle.patterns.specs.Pattern.{asF64}
-use Rattle.kinds.specs.Codes.{kindOf}
+use Rattle.kinds.specs.Table.{kindOf}
 use Rattle.counts.specs.Tally.{Tallied}
-use Rattle.kinds.specs.declared.Answer.the-variants.{Converted}
+use Rattle.answers.specs.declared.Answer.the-variants.{Converted}
 use Rattle.counts.specs.declared.Fared.{Fared}
-use Rattle.kinds.specs.declared.Fit.{Fit}
-use Rattle.kinds.specs.declared.Fit.the-variants.{Pattern}
-use Rattle.kinds.specs.declared.Lookup.{Lookup}
-use Rattle.kinds.specs.declared.Outcome.{Outcome}
-use Rattle.kinds.specs.declared.Outcome.the-variants.{Stored, NanOrInf, OutOfRange, FloatOutOfRange}
-use Rattle.kinds.proofs.Fit.{the-type}
+use Rattle.answers.specs.declared.Fit.{Fit}
+use Rattle.answers.specs.declared.Fit.the-variants.{Pattern}
+use Rattle.answers.specs.declared.Lookup.{Lookup}
+use Rattle.answers.specs.declared.Outcome.{Outcome}
+use Rattle.answers.specs.declared.Outcome.the-variants.{Stored, NanOrInf, OutOfRange, FloatOutOfRange}
+use Rattle.answers.proofs.Fit.{the-type}
 use Rattle.cast_spec.specs.Chunk.{answerNext, Refuses}
 use Rattle.cast_spec.specs.Fit.{filled, fitOf, unmapped}
 use Rattle.cast_spec.proofs.Outcomes.{stored-pattern, refuses}

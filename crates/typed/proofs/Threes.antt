@@ -42,9 +42,9 @@ use denote.Struct.Laws as LL
 use denote.Plain.{uint-makes, uint-vals, uint-tells}
 use denote.Triple.Statement.{Contract, Triple}
 use denote.Laws.{Is, Makes, shows}
-use Rattle.kinds.specs.declared.Reply.{Reply}
-use Rattle.kinds.proofs.Reply as R
-use Rattle.kinds.proofs.Reply.Laws as R′
+use Rattle.answers.specs.declared.Reply.{Reply}
+use Rattle.answers.proofs.Reply as R
+use Rattle.answers.proofs.Reply.Laws as R′
 use Rattle.walks.proofs.LendArray.{into-parts, back-room}
 use Rattle.typed.proofs.Conversions.{Pair, ended, clauses, Converts}
 

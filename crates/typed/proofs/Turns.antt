@@ -16,16 +16,17 @@ use Rattle.patterns.specs.Kind.{bits, width}
 use Rattle.patterns.specs.Value.{valueOf}
 use Rattle.counts.specs.Counts.{noCounts, countOf, countsIn}
 use Rattle.counts.specs.Tally.{noTally, counted, Countable}
-use Rattle.kinds.specs.declared.Answer.{Answer}
+use Rattle.answers.specs.declared.Answer.{Answer}
 use Rattle.counts.specs.declared.Counts.{Counts}
 use Rattle.counts.specs.declared.Fared.{Fared}
-use Rattle.kinds.specs.declared.Reply.{Reply}
-use Rattle.kinds.specs.declared.OutOfRangeMode.{OutOfRangeMode}
-use Rattle.kinds.specs.declared.Lookup.{Lookup}
-use Rattle.kinds.specs.declared.Outcome.{Outcome}
-use Rattle.kinds.specs.declared.Outcome.the-variants.{Stored, NanOrInf, OutOfRange, FloatOutOfRange}
-use Rattle.kinds.specs.Codes.{kindOf, roundingOf, rangeOf, wrapBarred}
-use Rattle.kinds.specs.declared.Answer.the-variants as A
+use Rattle.answers.specs.declared.Reply.{Reply}
+use Rattle.codes.specs.declared.OutOfRangeMode.{OutOfRangeMode}
+use Rattle.answers.specs.declared.Lookup.{Lookup}
+use Rattle.answers.specs.declared.Outcome.{Outcome}
+use Rattle.answers.specs.declared.Outcome.the-variants.{Stored, NanOrInf, OutOfRange, FloatOutOfRange}
+use Rattle.kinds.specs.Table.{kindOf}
+use Rattle.codes.specs.Codes.{roundingOf, rangeOf, wrapBarred}
+use Rattle.answers.specs.declared.Answer.the-variants as A
 use Rattle.cast_spec.specs.Contract.{Contract}
 use Rattle.cast_spec.proofs.Steps.{no-map}
 use Rattle.cast_spec.proofs.Contract.{contract}

@@ -5,9 +5,9 @@ use mathlib.Core.List.{List, map}
 use Prim.Native.Nat.{ℕ}
 use lib.Dec.{eqb}
 use Rattle.patterns.specs.Kind.{isFloat}
-use Rattle.kinds.specs.Codes.{kindOf}
-use Rattle.kinds.specs.Answer.{numberOf}
-use Rattle.kinds.specs.declared.Reply.{Reply}
+use Rattle.kinds.specs.Table.{kindOf}
+use Rattle.answers.specs.Answer.{numberOf}
+use Rattle.answers.specs.declared.Reply.{Reply}
 use Rattle.typed.specs.Typed.{TypedContract}
 use Rattle.typed.proofs.Turns.{Elements, map-is-whole, bytes-are-whole}
 use Rattle.typed.proofs.Pairs as pairs

@@ -3,12 +3,12 @@ use mathlib.Core.Path.{_≡_}
 use mathlib.Core.List.{List}
 use Prim.Native.Nat.{ℕ, _+_}
 use lib.ListN.{set}
-use Rattle.kinds.specs.Codes.{kindOf}
+use Rattle.kinds.specs.Table.{kindOf}
 use Rattle.counts.specs.Tally.{Tallied}
-use Rattle.kinds.specs.declared.Lookup.{Lookup}
-use Rattle.kinds.specs.declared.Outcome.{Outcome}
-use Rattle.kinds.specs.declared.Outcome.the-variants.{Stored, NanOrInf, OutOfRange, FloatOutOfRange}
-use Rattle.kinds.specs.declared.Answer.the-variants as A
+use Rattle.answers.specs.declared.Lookup.{Lookup}
+use Rattle.answers.specs.declared.Outcome.{Outcome}
+use Rattle.answers.specs.declared.Outcome.the-variants.{Stored, NanOrInf, OutOfRange, FloatOutOfRange}
+use Rattle.answers.specs.declared.Answer.the-variants as A
 use Rattle.cast_spec.specs.Fit.{unmapped}
 use Rattle.cast_spec.specs.Element.{foundOr}
 use Rattle.cast_spec.specs.Chunk.{answerNext}

@@ -3,8 +3,8 @@ use mathlib.Core.List.{List, [], _∷_, _++_, map}
 use Prim.Native.Nat.{ℕ}
 use Rattle.bytes_le.specs.Bytes.{toLe}
 use Rattle.patterns.specs.Kind.{width}
-use Rattle.kinds.specs.Codes.{kindOf}
-use Rattle.kinds.specs.declared.Reply.{Reply}
+use Rattle.kinds.specs.Table.{kindOf}
+use Rattle.answers.specs.declared.Reply.{Reply}
 use Rattle.cast_spec.specs.Element as E
 use Rattle.cast_spec.specs.Chunk.{Inputs, inputs}
 use Rattle.cast_spec.specs.Contract.{Contract}

@@ -8,11 +8,11 @@ ghost use Rattle.typed_entries.specs.Entries.{f64U8, f64I32, f32U8, f64F32, i64
 ghost use Rattle.typed.specs.Typed.{TypedContract};
 ghost use Rattle.counts.specs.Tally.{Countable};
 ghost use Rattle.typed.specs.Loop.{outcomeFor, nextState, storedIn, TalliedBy};
+use answers::Fit;
+use answers::Lookup;
+use answers::Reply;
 use counts::Tally;
-use kinds::Fit;
 use kinds::Format;
-use kinds::Lookup;
-use kinds::Reply;
 use typed_entries::Entry;
 use typed_entries::EntryF32U8;
 use typed_entries::EntryF64I32;

@@ -2,7 +2,7 @@
 use Prim.Native.Nat.{_%_, _^_}
 use lib.IntN.{pos}
 use lib.Ieee.{nan}
-use Rattle.kinds.specs.Codes.{kindOf}
+use Rattle.kinds.specs.Table.{kindOf}
 use Rattle.typed_entries.proofs.EntryI64F32 as EntryI64F32
 use Rattle.typed_entries.proofs.EntryI64F32.Laws as EntryI64F32′
 use Rattle.typed_entries.proofs.EntryF64U8.Laws as EntryF64U8′

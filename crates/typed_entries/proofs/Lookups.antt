@@ -51,10 +51,10 @@ use denote.Struct.Declared.{Declared, row, fields}
 use denote.Index.{place-is, elem-out, elem-back, looks-slice, shuts-slice}
 use Rattle.patterns.specs.Kind.{Kind, bits}
 use Rattle.patterns.specs.Value.{valueOf}
-use Rattle.kinds.specs.declared.Lookup.{Lookup}
-use Rattle.kinds.specs.declared.Lookup.the-variants.{Found, Missing}
-use Rattle.kinds.proofs.Lookup as F
-use Rattle.kinds.proofs.Lookup.Laws as F′
+use Rattle.answers.specs.declared.Lookup.{Lookup}
+use Rattle.answers.specs.declared.Lookup.the-variants.{Found, Missing}
+use Rattle.answers.proofs.Lookup as F
+use Rattle.answers.proofs.Lookup.Laws as F′
 use Rattle.cast_spec.specs.Element as E
 use Rattle.cast_spec.specs.Element.{matches, lookupOf}
 

@@ -3,11 +3,11 @@ ghost use mathlib.Core.Path.{_≡_};
 ghost use mathlib.Core.List.{map};
 ghost use Prim.Native.Nat.{_%_, _^_};
 ghost use Rattle.patterns.specs.Value.{valueOf};
-ghost use Rattle.kinds.specs.Codes.{kindOf};
+ghost use Rattle.kinds.specs.Table.{kindOf};
 ghost use Rattle.cast_spec.specs.Element.{matches, lookupOf};
 ghost use Rattle.typed_values.specs.Bits.{f64Bits, f32Bits, i64Bits};
 ghost use Rattle.typed_entries.specs.Entries.{f64U8, f64I32, f32U8, f64F32, i64F32};
-use kinds::Lookup;
+use answers::Lookup;
 
 // A map entry of f64 to u8.
 #[repr(C)]

@@ -1,7 +1,7 @@
 // Typed samples through each typed call. Each line is the pair, the rounding and range codes, the answer's number, the position of a refusal, the five counts, and
 // the patterns of the destination's elements.
+use answers::Reply;
 use counts::Counts;
-use kinds::Reply;
 use libc::STDOUT_FILENO;
 use typed_entries::Entry;
 use typed_entries::EntryF32U8;
@@ -38,10 +38,10 @@ fn print_reply(rounding: u8, range: u8, r: Reply) {
     io::write_all(STDOUT_FILENO, b" ");
     io::print_decimal(STDOUT_FILENO, wide(range));
     io::write_all(STDOUT_FILENO, b" ");
-    io::print_decimal(STDOUT_FILENO, wide(kinds::number(a)));
-    if kinds::names_position(kinds::number(a) as usize) {
+    io::print_decimal(STDOUT_FILENO, wide(answers::number(a)));
+    if answers::names_position(answers::number(a) as usize) {
         io::write_all(STDOUT_FILENO, b" at ");
-        io::print_decimal(STDOUT_FILENO, kinds::position(a) as u64);
+        io::print_decimal(STDOUT_FILENO, answers::position(a) as u64);
     }
     print_counts(c);
     io::write_all(STDOUT_FILENO, b":");

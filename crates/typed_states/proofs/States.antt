@@ -8,10 +8,10 @@ use lib.Dec.{ltb}
 use lib.ListN.{length, getD, length-map}
 use borrow.Author.Tests.{lt-ltb, le-ltb, eq-eqb, ne-eqb}
 use Rattle.grid.specs.declared.RoundingMode.{RoundingMode}
-use Rattle.kinds.specs.Codes.{roundingOf, rangeOf, wrapBarred}
-use Rattle.kinds.specs.declared.OutOfRangeMode.{OutOfRangeMode}
-use Rattle.kinds.specs.declared.Answer.{Answer}
-use Rattle.kinds.specs.declared.Answer.the-variants as A
+use Rattle.codes.specs.Codes.{roundingOf, rangeOf, wrapBarred}
+use Rattle.codes.specs.declared.OutOfRangeMode.{OutOfRangeMode}
+use Rattle.answers.specs.declared.Answer.{Answer}
+use Rattle.answers.specs.declared.Answer.the-variants as A
 use Rattle.typed_states.specs.declared.State.{State}
 use Rattle.typed_states.specs.States.{going, stopped, stateAt, checkOf, startOf}
 

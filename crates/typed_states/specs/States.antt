@@ -5,10 +5,10 @@ use Prim.Native.Nat.{ℕ}
 use lib.Dec.{ltb, eqb}
 use lib.ListN.{length, getD}
 use Rattle.grid.specs.declared.RoundingMode.{RoundingMode}
-use Rattle.kinds.specs.Codes.{roundingOf, rangeOf, wrapBarred}
-use Rattle.kinds.specs.declared.OutOfRangeMode.{OutOfRangeMode}
-use Rattle.kinds.specs.declared.Answer.{Answer}
-use Rattle.kinds.specs.declared.Answer.the-variants as A
+use Rattle.codes.specs.Codes.{roundingOf, rangeOf, wrapBarred}
+use Rattle.codes.specs.declared.OutOfRangeMode.{OutOfRangeMode}
+use Rattle.answers.specs.declared.Answer.{Answer}
+use Rattle.answers.specs.declared.Answer.the-variants as A
 use Rattle.typed_states.specs.declared.State.{State}
 
 module _ (rule : RoundingMode) (range : OutOfRangeMode) where

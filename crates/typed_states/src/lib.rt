@@ -5,12 +5,12 @@ ghost use Rattle.cast_spec.specs.Chunk.{answerNext};
 ghost use Rattle.typed_values.specs.Bits.{f64Bits, f32Bits, i64Bits};
 ghost use Rattle.counts.specs.Counts.{countsIn};
 ghost use Rattle.typed_states.specs.States.{checkOf, stateAt, startOf, going, stopped};
+use answers::Answer;
+use answers::Outcome;
+use answers::Reply;
+use codes::OutOfRangeMode;
 use counts::Tally;
 use grid::RoundingMode;
-use kinds::Answer;
-use kinds::OutOfRangeMode;
-use kinds::Outcome;
-use kinds::Reply;
 
 // What the loop of a typed call carries: whether an element is to be converted, its position and its pattern, the answer once the loop ends,
 // and what the call's codes say.
@@ -57,12 +57,12 @@ fn stop(at: usize, answer: Answer, rounding: RoundingMode, range: OutOfRangeMode
 fn check(n: usize, m: usize, to: u8, rounding: u8, range: u8) -> State
     ensures { λ r. ⌜ r ≡ checkOf n m to rounding range ⌝ }
 {
-    let rounding_mode = kinds::rounding_of(rounding);
-    let range_mode = kinds::range_of(range);
-    if !kinds::rules_listed(rounding, range) {
+    let rounding_mode = codes::rounding_of(rounding);
+    let range_mode = codes::range_of(range);
+    if !codes::rules_listed(rounding, range) {
         return stop(0, Answer::UnknownCode, rounding_mode, range_mode);
     }
-    if kinds::wrap_barred(to, range) {
+    if codes::wrap_barred(to, range) {
         return stop(0, Answer::BarredWrap, rounding_mode, range_mode);
     }
     if n != m {

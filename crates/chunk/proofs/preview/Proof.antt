@@ -2,7 +2,7 @@
 use mathlib.Core.Path.{sym, subst}
 use denote.Ref.{now}
 use borrow.Author.Needs.{needs}
-use Rattle.kinds.specs.declared.Reply.{Reply}
+use Rattle.answers.specs.declared.Reply.{Reply}
 use Rattle.cast_spec.specs.Chunk.{Inputs, inputs}
 use Rattle.cast_spec.specs.Preview.{Previewed}
 use Rattle.chunk.proofs.Calls.{refused-preview, run-asks, run-preview}

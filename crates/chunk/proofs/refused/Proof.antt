@@ -2,7 +2,7 @@
 use mathlib.Core.Path.{ap}
 use borrow.Author.Needs.{needs}
 use Rattle.counts.specs.declared.Counts.{Counts}
-use Rattle.kinds.specs.declared.Reply.{Reply}
+use Rattle.answers.specs.declared.Reply.{Reply}
 use Rattle.chunk.proofs.refused.Statement.{statement}
 use Rattle.chunk.proofs.refused.Tie as tie
 

@@ -5,14 +5,14 @@ use Prim.Native.Nat.{_/_, _%_, _<_}
 use lib.Dec.{eqb}
 use lib.ListN.{length}
 use denote.Ref.{now}
-use Rattle.kinds.specs.declared.Answer.the-variants as A
+use Rattle.answers.specs.declared.Answer.the-variants as A
 use Rattle.cast_spec.specs.Chunk.{Inputs, inputs, codesListed, wrapPermitted, mapWhole, bytesWhole, sw, dw}
 use Rattle.cast_spec.proofs.Refusals.{unknown, barred-wrap, broken-map, broken-element, mismatch}
 use Rattle.cast_spec.proofs.Widths.{width-pos}
 use Rattle.chunk_element.specs.declared.Settings.{Settings}
 use Rattle.chunk_checks.specs.declared.Checked.the-variants.{Refused, Passed}
 use Rattle.chunk_checks.specs.Settings.{settingsBy}
-use Rattle.kinds.proofs.Listed.{listed-kinds}
+use Rattle.codes.proofs.Listed.{listed-kinds}
 use Rattle.chunk_checks.proofs.Exits.{refused, passed}
 use borrow.Author.Needs.{needs}
 use borrow.Author.Tests.{not-true, not-false}

@@ -2,7 +2,7 @@
 use mathlib.Core.Path.{sym, subst}
 use Prim.Native.Nat.{ℕ, _<_}
 use borrow.Author.Needs.{needs}
-use Rattle.kinds.specs.Codes.{kindOf}
+use Rattle.kinds.specs.Table.{kindOf}
 use Rattle.kinds.proofs.Listed.{row-width}
 use Rattle.cast_spec.proofs.Widths.{width-pos}
 use Rattle.chunk_checks.proofs.Settings.{settings-are}

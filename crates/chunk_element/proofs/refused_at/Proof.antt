@@ -3,8 +3,8 @@ use mathlib.Core.Path.{ap, _∙_}
 use Prim.Native.Nat.{ℕ}
 use denote.Ref.{now}
 use borrow.Author.Needs.{needs}
-use Rattle.kinds.specs.declared.Answer.the-variants.{Converted}
-use Rattle.kinds.specs.declared.Outcome.{Outcome}
+use Rattle.answers.specs.declared.Answer.the-variants.{Converted}
+use Rattle.answers.specs.declared.Outcome.{Outcome}
 use Rattle.cast_spec.specs.Chunk.{answerNext}
 use Rattle.chunk_element.specs.Place.{refusedAnswer}
 use Rattle.chunk_element.proofs.Elements.{format-pattern, pattern-fits, source-place}

@@ -5,7 +5,7 @@ use native.Mathlib.Omega.{arith}
 use lib.ListN.{length}
 use denote.Ref.{now}
 use borrow.Author.Needs.{needs}
-use Rattle.kinds.specs.declared.Outcome.{Outcome}
+use Rattle.answers.specs.declared.Outcome.{Outcome}
 use Rattle.cast_spec.specs.Fit.{fitOf}
 use Rattle.chunk_element.specs.Settings.{settingsFor}
 use Rattle.chunk_run.specs.Run.{outcomes}

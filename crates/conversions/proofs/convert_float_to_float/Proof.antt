@@ -5,7 +5,7 @@ use borrow.Author.Needs.{needs}
 use Rattle.kinds.specs.Row.{floatOf}
 use Rattle.kinds.specs.declared.FloatFormat.{FloatFormat}
 use Rattle.counts.specs.declared.Fared.the-variants.{Exact}
-use Rattle.kinds.specs.declared.Fit.the-variants.{Pattern}
+use Rattle.answers.specs.declared.Fit.the-variants.{Pattern}
 use Rattle.narrowing.specs.Fit.{fitFloat}
 use Rattle.kinds.proofs.FloatRows.{single, double}
 use Rattle.conversions.proofs.ToF64.{to-f64}

@@ -8,7 +8,7 @@ use Rattle.grid.specs.Round.{ruleFor}
 use Rattle.grid.specs.declared.Rounded.{Rounded}
 use Rattle.kinds.specs.Row.{floatOf}
 use Rattle.kinds.specs.declared.FloatFormat.{FloatFormat}
-use Rattle.kinds.specs.declared.Fit.the-variants.{Pattern}
+use Rattle.answers.specs.declared.Fit.the-variants.{Pattern}
 use Rattle.floats.proofs.Signs.{signed-sum, signed-fits}
 use Rattle.integers.specs.Precision.{roundedBits}
 use Rattle.integers.proofs.Bounds.{pick-bits-lt}

@@ -8,7 +8,7 @@ use borrow.Author.Needs.{needs}
 use Rattle.patterns.specs.Pattern.{asF64}
 use Rattle.kinds.specs.Row.{kindIn, FormatRow}
 use Rattle.kinds.specs.declared.Format.{Format}
-use Rattle.kinds.specs.declared.Outcome.the-variants.{NanOrInf, OutOfRange}
+use Rattle.answers.specs.declared.Outcome.the-variants.{NanOrInf, OutOfRange}
 use Rattle.cast_spec.specs.Fit.{filled, pastRange}
 use Rattle.element.specs.Element.{CanonicalElement, elementF64}
 use Rattle.element.proofs.Refusals.{canonical-of, value-of, integer-ends, float-ends}

@@ -7,7 +7,7 @@ use Rattle.grid.specs.Round.{pick}
 use Rattle.patterns.specs.Float.{bitsMag}
 use Rattle.patterns.specs.Value.{valueOf}
 use Rattle.patterns.specs.Pattern.{patternOf}
-use Rattle.kinds.specs.Codes.{kindOf}
+use Rattle.kinds.specs.Table.{kindOf}
 use Rattle.kinds.specs.Row.{formatOf, rowOf}
 use Rattle.kinds.specs.declared.KindRow.{KindRow}
 use Rattle.kinds.proofs.Table.{row}

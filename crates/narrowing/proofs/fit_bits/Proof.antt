@@ -9,8 +9,8 @@ use Rattle.patterns.specs.Float.{infBits}
 use Rattle.patterns.specs.Pattern.{withSign}
 use Rattle.patterns.proofs.Floats.{inf-lt}
 use Rattle.counts.specs.declared.Fared.the-variants.{Clamped}
-use Rattle.kinds.specs.declared.OutOfRangeMode.the-variants.{Clamp}
-use Rattle.kinds.specs.declared.Fit.the-variants.{Pattern}
+use Rattle.codes.specs.declared.OutOfRangeMode.the-variants.{Clamp}
+use Rattle.answers.specs.declared.Fit.the-variants.{Pattern}
 use Rattle.floats.proofs.Signs.{signed-sum, signed-fits}
 use Rattle.narrowing.specs.Fit.{overrunFit}
 use Rattle.narrowing.specs.Format.{FormatBits}

@@ -8,7 +8,7 @@ use Rattle.grid.specs.declared.Rounded.{Rounded}
 use Rattle.patterns.specs.Pattern.{withSign}
 use Rattle.patterns.proofs.Floats.{inf-lt, nan-lt}
 use Rattle.counts.specs.declared.Fared.the-variants.{Exact}
-use Rattle.kinds.specs.declared.Fit.the-variants.{Pattern}
+use Rattle.answers.specs.declared.Fit.the-variants.{Pattern}
 use Rattle.floats.specs.Form.{CanonicalClass}
 use Rattle.floats.specs.declared.Class.the-variants.{NotANumber}
 use Rattle.floats.proofs.Signs.{signed-sum, signed-fits}

@@ -6,7 +6,7 @@ use Prim.Native.Nat.{_+_, _≤_}
 use native.Mathlib.Omega.{arith}
 use lib.ListN.{length}
 use denote.Ref.{now}
-use Rattle.kinds.specs.Answer.{namesPosition}
+use Rattle.answers.specs.Answer.{namesPosition}
 use Rattle.report.proofs.Lines.{number-room, refused-plain, at-room, position-room, refused-at}
 use borrow.Author.Needs.{needs}
 use borrow.Author.Tests.{not-true, not-false}

@@ -3,7 +3,7 @@ use mathlib.Core.Path.{_≡_, ap, _∙_}
 use mir.Val.{toZ, ofZ}
 use mir.Syntax.{w32}
 use borrow.Author.Needs.{needs}
-use Rattle.kinds.specs.declared.Lookup.the-variants.{Found}
+use Rattle.answers.specs.declared.Lookup.the-variants.{Found}
 use Rattle.typed_values.specs.Bits.{i32Bits}
 use Rattle.typed_entries.proofs.found_f64_i32.Tie as tie
 use Rattle.typed_entries.proofs.found_f64_i32.Statement.{statement}

@@ -5,7 +5,7 @@ use mir.Val.{toZ, ofZ}
 use mir.Syntax.{w64}
 use borrow.Author.Needs.{needs}
 use Rattle.patterns.specs.Value.{valueOf}
-use Rattle.kinds.specs.Codes.{kindOf}
+use Rattle.kinds.specs.Table.{kindOf}
 use Rattle.cast_spec.specs.Element.{matches}
 use Rattle.typed_values.specs.Bits.{i64Bits}
 use Rattle.typed_entries.proofs.matches_i64_f32.Tie as tie

@@ -4,7 +4,7 @@ use mathlib.Core.Bool.{true, false, _&&_}
 use lib.Dec.{ltb}
 use borrow.Author.Needs.{needs}
 use borrow.Author.Tests.{not-true, not-false}
-use Rattle.kinds.specs.Codes.{wrapBarred}
+use Rattle.codes.specs.Codes.{wrapBarred}
 use Rattle.typed_states.proofs.States.{rules-unlisted, wrap-barred, counts-differ, checks-pass}
 use Rattle.typed_states.proofs.check.Statement.{statement}
 use Rattle.typed_states.proofs.check.Tie as tie

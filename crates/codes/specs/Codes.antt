@@ -1,16 +1,13 @@
--- To be believed: the codes of a call: kinds, roundings and range choices, and which of them are barred together.
-use mathlib.Core.Bool.{Bool, true, false, _&&_, cond}
-use Prim.Native.Nat.{ℕ, zero, suc, _-_, _*_, _^_}
-use lib.Dec.{eqb, ltb}
+-- To be believed: the codes of a call: roundings and range choices, and which of them are barred with which kinds.
+use mathlib.Core.Bool.{Bool, _&&_}
+use Prim.Native.Nat.{ℕ, zero, suc}
+use lib.Dec.{eqb}
 use Rattle.grid.specs.declared.RoundingMode.{RoundingMode}
 use Rattle.grid.specs.declared.RoundingMode.the-variants.{NearestEven, TowardsZero, TowardsPositive, TowardsNegative, NearestAway}
-use Rattle.patterns.specs.Kind.{Kind, integer, f32, f64, isFloat}
-use Rattle.kinds.specs.declared.OutOfRangeMode.{OutOfRangeMode}
-use Rattle.kinds.specs.declared.OutOfRangeMode.the-variants.{None, Clamp, Wrap}
-
--- the table of kinds: 0, 1, 2, 3 are i8, i16, i32, i64; 4, 5, 6, 7 are u8, u16, u32, u64; 8, 9 are f32, f64
-abbrev pub kindOf : ℕ → Kind
-kindOf c = cond (ltb c 4) (integer true (8 * 2 ^ c)) (cond (ltb c 8) (integer false (8 * 2 ^ (c - 4))) (cond (eqb c 8) f32 f64))
+use Rattle.patterns.specs.Kind.{isFloat}
+use Rattle.kinds.specs.Table.{kindOf}
+use Rattle.codes.specs.declared.OutOfRangeMode.{OutOfRangeMode}
+use Rattle.codes.specs.declared.OutOfRangeMode.the-variants.{None, Clamp, Wrap}
 
 -- "Rounding codes 0 to 4, in the order of `RoundingMode`"
 abbrev pub roundingOf : ℕ → RoundingMode

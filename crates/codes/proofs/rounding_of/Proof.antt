@@ -1,11 +1,11 @@
--- `kinds::rounding_of` meets its contract.
+-- `codes::rounding_of` meets its contract.
 use mathlib.Core.Path.{_≡_, refl}
 use Prim.Native.Nat.{ℕ, zero, suc}
 use Rattle.grid.specs.declared.RoundingMode.the-variants.{NearestAway}
-use Rattle.kinds.specs.Codes.{roundingOf}
+use Rattle.codes.specs.Codes.{roundingOf}
 use borrow.Author.Needs.{needs}
-use Rattle.kinds.proofs.rounding_of.Statement.{statement}
-use Rattle.kinds.proofs.rounding_of.Tie as tie
+use Rattle.codes.proofs.rounding_of.Statement.{statement}
+use Rattle.codes.proofs.rounding_of.Tie as tie
 
 -- a code that is none of 0 to 3
 rest : (n : ℕ) → (n ≡ 0 → ⊥) → (n ≡ 1 → ⊥) → (n ≡ 2 → ⊥) → (n ≡ 3 → ⊥) → NearestAway ≡ roundingOf n

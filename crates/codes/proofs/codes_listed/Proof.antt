@@ -1,9 +1,9 @@
--- `kinds::codes_listed` meets its contract: each way's tests are those of the definition.
+-- `codes::codes_listed` meets its contract: each way's tests are those of the definition.
 use mathlib.Core.Path.{_∙_}
 use borrow.Author.Needs.{needs}
 use borrow.Author.Tests.{lt-ltb, le-ltb}
-use Rattle.kinds.proofs.codes_listed.Statement.{statement}
-use Rattle.kinds.proofs.codes_listed.Tie as tie
+use Rattle.codes.proofs.codes_listed.Statement.{statement}
+use Rattle.codes.proofs.codes_listed.Tie as tie
 
 returns : tie.Need-returns
 returns c = simp (le-ltb (c .before .args .from) 10 (c .if1 .taken))

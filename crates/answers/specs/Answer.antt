@@ -4,11 +4,11 @@ use Prim.Native.Nat.{ℕ}
 use lib.Dec.{ltb, leb}
 use Rattle.patterns.specs.Pattern.{lowBits}
 use Rattle.counts.specs.Counts.{noCounts}
-use Rattle.kinds.specs.declared.Outcome.{Outcome}
-use Rattle.kinds.specs.declared.Outcome.the-variants as O
-use Rattle.kinds.specs.declared.Answer.{Answer}
-use Rattle.kinds.specs.declared.Answer.the-variants.{Converted, UnknownCode, BrokenMap, BrokenElement, LengthMismatch, NanOrInf, OutOfRange, FloatOutOfRange, BarredWrap}
-use Rattle.kinds.specs.declared.Reply.{Reply}
+use Rattle.answers.specs.declared.Outcome.{Outcome}
+use Rattle.answers.specs.declared.Outcome.the-variants as O
+use Rattle.answers.specs.declared.Answer.{Answer}
+use Rattle.answers.specs.declared.Answer.the-variants.{Converted, UnknownCode, BrokenMap, BrokenElement, LengthMismatch, NanOrInf, OutOfRange, FloatOutOfRange, BarredWrap}
+use Rattle.answers.specs.declared.Reply.{Reply}
 
 -- ---- the column "number" of the table "What the chunk call answers", and 8 "for wrap with target kind f32 or f64"; 0 where all is converted
 abbrev pub numberOf : Answer → ℕ

@@ -1,11 +1,11 @@
--- `kinds::range_of` meets its contract.
+-- `codes::range_of` meets its contract.
 use mathlib.Core.Path.{_≡_, refl}
 use Prim.Native.Nat.{ℕ, zero, suc}
-use Rattle.kinds.specs.Codes.{rangeOf}
-use Rattle.kinds.specs.declared.OutOfRangeMode.the-variants.{Wrap}
+use Rattle.codes.specs.Codes.{rangeOf}
+use Rattle.codes.specs.declared.OutOfRangeMode.the-variants.{Wrap}
 use borrow.Author.Needs.{needs}
-use Rattle.kinds.proofs.range_of.Statement.{statement}
-use Rattle.kinds.proofs.range_of.Tie as tie
+use Rattle.codes.proofs.range_of.Statement.{statement}
+use Rattle.codes.proofs.range_of.Tie as tie
 
 -- a code that is neither 0 nor 1
 rest : (n : ℕ) → (n ≡ 0 → ⊥) → (n ≡ 1 → ⊥) → Wrap ≡ rangeOf n

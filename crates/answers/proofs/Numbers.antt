@@ -1,21 +1,14 @@
--- A refusal names a position or leaves all the destination as it was, and none does both; of the numbers up to 8, 1 to 4 and 8 leave all. First, a test of two parts.
-use mathlib.Core.Path.{_≡_, refl, sym, subst}
+-- A refusal names a position or leaves all the destination as it was, and none does both; of the numbers up to 8, 1 to 4 and 8 leave all.
+use mathlib.Core.Path.{_≡_, sym, subst}
 use mathlib.Core.Logic.{_⊎_, inl, inr}
-use mathlib.Core.Bool.{Bool, true, false, _&&_, not, true≢false}
+use mathlib.Core.Bool.{Bool, true, false, _&&_, not}
 use Prim.Native.Nat.{ℕ, _≤_, _<_}
 use native.Mathlib.Omega.{arith}
 use lib.Dec.{T, T-not, ltb, ltb→lt}
 use borrow.Author.Tests.{lt-ltb, le-leb}
 use Rattle.grid.proofs.Neighbours.{cut}
-use Rattle.kinds.specs.Answer.{namesPosition, leavesAll}
-
-pub both : (a b : Bool) → T (a && b) → T a × T b
-both true b h = (tt, h)
-both false b h = absurd h
-
-pub parts : (a b : Bool) → a && b ≡ true → (a ≡ true) × (b ≡ true)
-parts true b e = (refl, e)
-parts false b e = absurd (true≢false (sym e))
+use Rattle.grid.proofs.Tests.{both}
+use Rattle.answers.specs.Answer.{namesPosition, leavesAll}
 
 5-to-7-name : (n : ℕ) → 5 ≤ n → n ≤ 7 → T (namesPosition n)
 5-to-7-name n a b = let e : namesPosition n ≡ true = simp (le-leb 5 n a, le-leb n 7 b) in subst T (sym e) tt

@@ -1,7 +1,7 @@
--- `kinds::rules_listed` meets its contract: each way's tests are those of the definition.
+-- `codes::rules_listed` meets its contract: each way's tests are those of the definition.
 use borrow.Author.Tests.{lt-ltb, le-ltb}
-use Rattle.kinds.proofs.rules_listed.Statement.{statement}
-use Rattle.kinds.proofs.rules_listed.Tie as tie
+use Rattle.codes.proofs.rules_listed.Statement.{statement}
+use Rattle.codes.proofs.rules_listed.Tie as tie
 
 returns : tie.Need-returns
 returns c = simp (le-ltb (c .before .args .rounding) 5 (c .if1 .taken))

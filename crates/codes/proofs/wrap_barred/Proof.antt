@@ -1,8 +1,8 @@
--- `kinds::wrap_barred` meets its contract: wrap is tested first, and the float kinds are those from 8 on.
+-- `codes::wrap_barred` meets its contract: wrap is tested first, and the float kinds are those from 8 on.
 use borrow.Author.Tests.{eq-eqb, ne-eqb}
 use Rattle.kinds.proofs.Listed.{float-from-8}
-use Rattle.kinds.proofs.wrap_barred.Statement.{statement}
-use Rattle.kinds.proofs.wrap_barred.Tie as tie
+use Rattle.codes.proofs.wrap_barred.Statement.{statement}
+use Rattle.codes.proofs.wrap_barred.Tie as tie
 
 returns : tie.Need-returns
 returns c = simp (ne-eqb (c .before .args .range) 2 (c .if1 .taken))

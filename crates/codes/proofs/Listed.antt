@@ -1,0 +1,12 @@
+-- Where a call's codes are listed, its kinds are.
+use mathlib.Core.Path.{_≡_}
+use mathlib.Core.Bool.{true, _&&_}
+use Prim.Native.Nat.{ℕ, _<_}
+use lib.Dec.{ltb}
+use borrow.Author.Tests.{ltb-true}
+use Rattle.grid.proofs.Tests.{parts}
+
+pub listed-kinds : (f t o g : ℕ) → ltb f 10 && ltb t 10 && ltb o 5 && ltb g 3 ≡ true → (f < 10) × (t < 10)
+listed-kinds f t o g e =
+    let p = parts (ltb f 10) (ltb t 10) (parts (ltb f 10 && ltb t 10) (ltb o 5) (parts (ltb f 10 && ltb t 10 && ltb o 5) (ltb g 3) e .0) .0) in
+    (ltb-true f 10 (p .0), ltb-true t 10 (p .1))
