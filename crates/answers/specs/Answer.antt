@@ -10,7 +10,7 @@ use Rattle.answers.specs.declared.Answer.{Answer}
 use Rattle.answers.specs.declared.Answer.the-variants.{Converted, UnknownCode, BrokenMap, BrokenElement, LengthMismatch, NanOrInf, OutOfRange, FloatOutOfRange, BarredWrap}
 use Rattle.answers.specs.declared.Reply.{Reply}
 
--- ---- the column "number" of the table "What the chunk call answers", and 8 "for wrap with target kind f32 or f64"; 0 where all is converted
+-- ---- the column "number" of the table "What the chunk call answers", and 8 "for wrap with target kind f32 or f64", or f16; 0 where all is converted
 abbrev pub numberOf : Answer → ℕ
 numberOf Converted = 0
 numberOf UnknownCode = 1

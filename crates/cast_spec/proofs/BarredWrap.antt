@@ -22,23 +22,27 @@ use Rattle.grid.proofs.Tests.{parts}
 use Rattle.cast_spec.specs.Chunk.{Inputs, sw, dw, codesListed, wrapPermitted, mapWhole, bytesWhole, countsMeet, Check, allPass, tested, callOf, outcomeAt, answerFrom, answerOf, bytesFrom, destinationOf, convertedOf, countsBelow, countsOf}
 use Rattle.cast_spec.proofs.Demand1.{demand1}
 
--- ---- "8 for wrap with target kind f32 or f64", whatever the lengths, the map and the elements are
+-- ---- "8 for wrap with target kind f32 or f64", and "From now on 8 bars wrap to f16 too", whatever the lengths, the map and the elements are
 not-not : (b : Bool) → not b ≡ false → b ≡ true
 not-not true e = refl
 not-not false e = absurd (true≢false e)
 
 module _ (I : Inputs) where
-  -- a listed float kind is f32 or f64
-  float-code : I .to < 10 → isFloat (kindOf (I .to)) ≡ true → (I .to ≡ 8) ⊎ (I .to ≡ 9)
+  -- f32, f64 or f16
+  abbrev FloatCode : Type 0
+  FloatCode = (I .to ≡ 8) ⊎ ((I .to ≡ 9) ⊎ (I .to ≡ 10))
+
+  float-code : I .to < 11 → isFloat (kindOf (I .to)) ≡ true → FloatCode
   float-code few e =
       let l : 8 ≤ I .to = leb-true 8 (I .to) (float-from-8 (I .to) ∙ e) in
-      cut (I .to) 9 (λ (m : I .to < 9). inl (omega arith)) (λ (m : 9 ≤ I .to). inr (omega arith))
+      cut (I .to) 9 (λ (m : I .to < 9). inl (omega arith)) (λ (m : 9 ≤ I .to). cut (I .to) 10 (λ (n : I .to < 10). inr (inl (omega arith))) (λ (n : 10 ≤ I .to). inr (inr (omega arith))))
 
-  is-float : (I .to ≡ 8) ⊎ (I .to ≡ 9) → isFloat (kindOf (I .to)) ≡ true
+  is-float : FloatCode → isFloat (kindOf (I .to)) ≡ true
   is-float (inl e) = ap (λ (c : ℕ). isFloat (kindOf c)) e
-  is-float (inr e) = ap (λ (c : ℕ). isFloat (kindOf c)) e
+  is-float (inr (inl e)) = ap (λ (c : ℕ). isFloat (kindOf c)) e
+  is-float (inr (inr e)) = ap (λ (c : ℕ). isFloat (kindOf c)) e
 
-  pub eight-exactly : (numberOf (answerOf I) ≡ 8) ↔ ((codesListed I ≡ true) × (I .range ≡ 2) × ((I .to ≡ 8) ⊎ (I .to ≡ 9)))
+  pub eight-exactly : (numberOf (answerOf I) ≡ 8) ↔ ((codesListed I ≡ true) × (I .range ≡ 2) × FloatCode)
   eight-exactly = (
     λ n.
         let c = demand1 I .barred-wrap .0 n in

@@ -56,7 +56,7 @@ module _ (I : Inputs) (t : T (callOf I .passed)) where
 
   pub range-listed : I .range < 3
   unfolding callOf
-  range-listed = ltb→lt (I .range) 3 (both (ltb (I .from) 10 && ltb (I .to) 10 && ltb (I .rounding) 5) (ltb (I .range) 3) (both (codesListed I) _ t .0) .1)
+  range-listed = ltb→lt (I .range) 3 (both (ltb (I .from) 11 && ltb (I .to) 11 && ltb (I .rounding) 5) (ltb (I .range) 3) (both (codesListed I) _ t .0) .1)
 
   pub wrap-permitted : T (wrapPermitted I)
   wrap-permitted = both (wrapPermitted I) _ behind-1 .0

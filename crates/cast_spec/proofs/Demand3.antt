@@ -1,10 +1,10 @@
 -- Demand 3 holds of the answer and the destination that the definitions give, whatever the inputs are.
 use mathlib.Core.Path.{_≡_, refl, sym, subst}
-use mathlib.Core.Bool.{Bool, true, false, _&&_, not, cond}
-use Prim.Native.Nat.{ℕ, zero, suc, _-_, _*_, _^_, _<_}
+use mathlib.Core.Bool.{_&&_, not}
+use Prim.Native.Nat.{ℕ, zero, suc, _-_, _<_}
 use native.Mathlib.Nat.{mul-pos, zero-add}
 use native.Mathlib.Omega.{arith}
-use lib.Dec.{T, ltb, eqb, lit<, lit≤}
+use lib.Dec.{T, eqb, lit<, lit≤}
 use lib.IntN.{ℤ}
 use lib.Pow.{pow-pos}
 use Rattle.patterns.specs.Kind.{Kind, integer, binary, isFloat, WellFormed}
@@ -15,6 +15,7 @@ use Rattle.cast_spec.specs.Chunk.{Inputs, Call, Reached, dw, settingsOf,
 use Rattle.bytes_le.specs.Bytes.{patternAt}
 use Rattle.cast_spec.specs.Demand3.{Taken, Rounded, Demand3}
 use Rattle.answers.specs.declared.Answer.{Answer}
+use Rattle.kinds.proofs.Listed.{by-any-code}
 use Rattle.cast_spec.proofs.Checks.{answer-is, destination-is, range-listed, wrap-permitted}
 use Rattle.cast_spec.proofs.Each.{Served, WrapsFloat, each-of}
 use Rattle.cast_spec.proofs.Places.{served}
@@ -28,15 +29,9 @@ demand3-of c r res ok free f = record { each = each; order = order-of c r res ea
     each : (i : ℕ) (x : ℤ) → Taken c i x → Rounded (c .settings) r (res i) i x
     each i x t = each-of c r (res i) i x ok (free (t .reached .passed)) t (f i (t .reached))
 
--- ---- the ten kinds are as the laws ask
+-- ---- the eleven kinds are as the laws ask
 pub good : (c : ℕ) → WellFormed (kindOf c)
-good c = go (ltb c 4) (ltb c 8) (eqb c 8)
-  where
-    go : (x y z : Bool) → WellFormed (cond x (integer true (8 * 2 ^ c)) (cond y (integer false (8 * 2 ^ (c - 4))) (cond z (binary 24 8 925) (binary 53 11 0))))
-    go true y z = mul-pos (lit< tt) (pow-pos c)
-    go false true z = mul-pos (lit< tt) (pow-pos (c - 4))
-    go false false true = (lit≤ tt, lit< tt)
-    go false false false = (lit≤ tt, lit< tt)
+good = by-any-code WellFormed (λ s c. mul-pos (lit< tt) (pow-pos c)) (lit≤ tt, lit< tt) (lit≤ tt, lit< tt) (lit≤ tt, lit< tt)
 
 module _ (I : Inputs) where
   pub to-is : callOf I .settings .to ≡ kindOf (I .to)

@@ -12,7 +12,7 @@ use Rattle.patterns.specs.Kind.{width}
 use Rattle.kinds.specs.Table.{kindOf}
 use Rattle.cast_spec.proofs.Widths.{listed-width}
 
-pub kind-fetched : (code : ℕ) → code < 10 → (s : List ℕ) (i : ℕ) → (i + 1) * width (kindOf code) ≤ length s
+pub kind-fetched : (code : ℕ) → code < 11 → (s : List ℕ) (i : ℕ) → (i + 1) * width (kindOf code) ≤ length s
     → let w = width (kindOf code) in Place s (i * w) w × (AreBytes s → Fetched s (i * w) w (patternAt w s i))
 kind-fetched code listed s i within =
     let w = width (kindOf code) in

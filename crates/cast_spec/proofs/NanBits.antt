@@ -4,22 +4,22 @@ use mathlib.Core.Logic.{_⊎_, inl, inr}
 use mathlib.Core.Bool.{Bool, true, false, _&&_, cond}
 use mathlib.Core.List.{List, [], _∷_, _++_}
 use Prim.Native.Nat.{ℕ, zero, suc, _+_, _-_, _*_, _/_, _%_, _^_, _≤_, _<_}
-use native.Mathlib.Nat.{mod-lt, mod-mod, zero-add}
+use native.Mathlib.Nat.{mod-mod, zero-add}
 use native.Mathlib.Omega.{arith}
 use lib.Dec.{T, ltb, eqb, eqb→eq, lit<, lit≤}
 use lib.ListN.{length, take, drop, length-append, length-drop}
-use lib.Pow.{pow-pos, mod-mod-pow}
+use lib.Pow.{mod-mod-pow}
 use lib.Seq.{drop-drop}
+use borrow.Author.Tests.{eqb-false}
 use Rattle.grid.specs.Round.{signed}
 use Rattle.grid.specs.declared.RoundingMode.{RoundingMode}
 use Rattle.bytes_le.specs.Bytes.{fromLe, toLe, patternAt}
 use Rattle.bytes_le.proofs.Places.{first-place, next-place}
 use Rattle.bytes_le.proofs.Sums.{length-toLe}
 use Rattle.patterns.specs.Float.{bitsMag, infBits}
-use Rattle.patterns.specs.Kind.{Kind, integer, binary, f32, f64, bits}
+use Rattle.patterns.specs.Kind.{Kind, integer, binary, f16, f32, f64, bits}
 use Rattle.patterns.specs.Value.{Value, nan, inf, num, negative, floatValue, valueOf}
-use Rattle.patterns.specs.Pattern.{quiet, nanPattern, asF64, asF64From}
-use Rattle.patterns.proofs.Floats.{nan-back}
+use Rattle.patterns.specs.Pattern.{nanPattern, asF64, asF64From}
 use Rattle.patterns.proofs.Integers.{no-integer-nan}
 use Rattle.kinds.specs.Table.{kindOf}
 use Rattle.codes.specs.Codes.{roundingOf, rangeOf}
@@ -33,6 +33,7 @@ use Rattle.answers.specs.declared.Outcome.{Outcome}
 use Rattle.answers.specs.declared.Outcome.the-variants.{Stored, NanOrInf, OutOfRange, FloatOutOfRange}
 use Rattle.answers.specs.declared.Answer.{Answer}
 use Rattle.answers.specs.declared.Reply.{Reply}
+use Rattle.kinds.proofs.Listed.{by-any-code}
 use Rattle.cast_spec.specs.Element.{Entry, Settings, matches, lookupOf, foundOr, converted, outcomeOf}
 use Rattle.cast_spec.specs.Chunk.{Inputs, inputs, entriesFrom, sw, dw, settingsOf, mapWhole, bytesWhole, countsMeet, Check, checksOf, allPass, tested, callOf, outcomeAt, answerNext, answerFrom, answerOf, convertedOf, faredAs, countBelow, countsOf, bytesNext, bytesFrom, destinationOf}
 use Rattle.cast_spec.specs.Contract.{Contract}
@@ -40,6 +41,7 @@ use Rattle.cast_spec.specs.NanBits.{Alike, AlikeBytes, AlikeInputs, Same
 use Rattle.cast_spec.proofs.Widths.{kind-fits}
 use Rattle.cast_spec.proofs.Checks.{map-whole, counts-meet, long-written}
 use Rattle.cast_spec.proofs.Counts.{converted-within}
+use Rattle.cast_spec.proofs.Sentences.{nan-stays}
 use Rattle.cast_spec.proofs.Steps.{no-map}
 
 -- ---- a NaN is one by the bits below its sign
@@ -78,46 +80,22 @@ abbrev NanStep : Kind → Kind → ℕ → Type 0
 NanStep (integer s n) from b = valueOf f64 (nanPattern from 53 11 b) ≡ nan
 NanStep (binary p w s) from b = valueOf (binary p w s) (nanPattern from p w b) ≡ nan
 
-module _ (p p′ b : ℕ) (two : 2 ≤ p′) where
-  quiet-some : 0 < quiet p p′ b
-  quiet-some = let h = pow-pos (p′ - 2) in omega arith
-
-  quiet-room : quiet p p′ b < 2 ^ (p′ - 1)
-  quiet-room =
-      let h = mod-lt (b % 2 ^ (p - 1) * 2 ^ (p′ - 1) / 2 ^ (p - 1)) (pow-pos (p′ - 2)) in
-      let e : 2 ^ (p′ - 1) ≡ 2 ^ (p′ - 2) + 2 ^ (p′ - 2) = twice p′ two in omega arith
-    where
-      twice : (q : ℕ) → 2 ≤ q → 2 ^ (q - 1) ≡ 2 ^ (q - 2) + 2 ^ (q - 2)
-      twice zero h = absurd (omega arith)
-      twice (suc zero) h = absurd (omega arith)
-      twice (suc (suc q)) h =
-          let e : suc (suc q) - 1 ≡ suc q = omega arith in
-          let f : suc (suc q) - 2 ≡ q = omega arith in
-          ap (λ (z : ℕ). 2 ^ z) e ∙ omega arith ∙ ap (λ (z : ℕ). 2 ^ z + 2 ^ z) (sym f)
-
-f32-to-f64 : (b : ℕ) → valueOf f64 (nanPattern f32 53 11 b) ≡ nan
-unfolding nanPattern
-f32-to-f64 b = nan-back 53 11 0 (lit≤ tt) (lit< tt) (negative f32 b) (quiet 24 53 b) (quiet-some 24 53 b (lit≤ tt)) (quiet-room 24 53 b (lit≤ tt))
-
-f64-to-f32 : (b : ℕ) → valueOf f32 (nanPattern f64 24 8 b) ≡ nan
-unfolding nanPattern
-f64-to-f32 b = nan-back 24 8 925 (lit≤ tt) (lit< tt) (negative f64 b) (quiet 53 24 b) (quiet-some 53 24 b (lit≤ tt)) (quiet-room 53 24 b (lit≤ tt))
-
-by-kind : (F : Kind → Type 0) (c : ℕ) → ((s : Bool) (n : ℕ) → F (integer s n)) → F f32 → F f64 → F (kindOf c)
-by-kind F c i a b = go (ltb c 4) (ltb c 8) (eqb c 8)
-  where
-    go : (x y z : Bool) → F (cond x (integer true (8 * 2 ^ c)) (cond y (integer false (8 * 2 ^ (c - 4))) (cond z f32 f64)))
-    go true y z = i true (8 * 2 ^ c)
-    go false true z = i false (8 * 2 ^ (c - 4))
-    go false false true = a
-    go false false false = b
-
 nan-step : (from to b : ℕ) → valueOf (kindOf from) b ≡ nan → NanStep (kindOf to) (kindOf from) b
 unfolding nanPattern
-nan-step from to b = by-kind (λ (k : Kind). valueOf k b ≡ nan → NanStep (kindOf to) k b) from
-    (λ s n h. absurd (no-integer-nan s n b h))
-    (λ h. by-kind (λ (k : Kind). NanStep k f32 b) to (λ s n. f32-to-f64 b) h (f32-to-f64 b))
-    (λ h. by-kind (λ (k : Kind). NanStep k f64 b) to (λ s n. h) (f64-to-f32 b) h)
+nan-step from to b = by-any-code (λ (k : Kind). valueOf k b ≡ nan → NanStep (kindOf to) k b)
+    (λ s c h. absurd (no-integer-nan s (8 * 2 ^ c) b h))
+    (λ h. by-any-code (λ (k : Kind). NanStep k f32 b) (λ s c. to-f64 24 8 925 refl) h (to-f64 24 8 925 refl) (to-f16 24 8 925 refl) to)
+    (λ h. by-any-code (λ (k : Kind). NanStep k f64 b) (λ s c. h) (to-f32 53 11 0 refl) h (to-f16 53 11 0 refl) to)
+    (λ h. by-any-code (λ (k : Kind). NanStep k f16 b) (λ s c. to-f64 11 5 1050 refl) (to-f32 11 5 1050 refl) (to-f64 11 5 1050 refl) h to) from
+  where
+    to-f16 : (p w s : ℕ) → eqb p 11 ≡ false → valueOf f16 (nanPattern (binary p w s) 11 5 b) ≡ nan
+    to-f16 p w s other = nan-stays p w s 11 5 1050 b (eqb-false p 11 other) (lit≤ tt) (lit< tt)
+
+    to-f32 : (p w s : ℕ) → eqb p 24 ≡ false → valueOf f32 (nanPattern (binary p w s) 24 8 b) ≡ nan
+    to-f32 p w s other = nan-stays p w s 24 8 925 b (eqb-false p 24 other) (lit≤ tt) (lit< tt)
+
+    to-f64 : (p w s : ℕ) → eqb p 53 ≡ false → valueOf f64 (nanPattern (binary p w s) 53 11 b) ≡ nan
+    to-f64 p w s other = nan-stays p w s 53 11 0 b (eqb-false p 53 other) (lit≤ tt) (lit< tt)
 
 -- ---- one element
 pub record StoredNans (k : Kind) (o o′ : Outcome) : Type 0 where

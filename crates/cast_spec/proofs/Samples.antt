@@ -1,4 +1,4 @@
--- The samples of document 01, the inputs that tell its false casts apart, whole calls and their previews: tables, each proved by one theorem.
+-- The samples of document 01, the inputs that tell its false casts apart, those of half precision, whole calls and their previews: tables, each proved by one theorem.
 use mathlib.Core.Path.{_≡_, refl}
 use mathlib.Core.List.{List, [], _∷_, _++_, map}
 use Prim.Native.Nat.{ℕ, _+_, _-_, _*_, _^_, _<_}
@@ -12,7 +12,7 @@ use Rattle.grid.specs.declared.RoundingMode.the-variants.{NearestEven, TowardsZ
 use Rattle.patterns.specs.Float.{bitsMag}
 use Rattle.kinds.specs.Table.{kindOf}
 use Rattle.patterns.specs.Value.{valueOf}
-use Rattle.patterns.specs.Kind.{Kind, f32, f64, lowest, highest}
+use Rattle.patterns.specs.Kind.{Kind, f16, f32, f64, lowest, highest}
 use Rattle.counts.specs.Counts.{noCounts}
 use Rattle.counts.specs.declared.Counts.{Counts}
 use Rattle.counts.specs.declared.Fared.the-variants.{Mapped, Exact, Rounded, Clamped, Wrapped}
@@ -42,6 +42,12 @@ i64 = kindOf 3
 abbrev u8 : Kind
 u8 = kindOf 4
 
+abbrev u16 : Kind
+u16 = kindOf 5
+
+abbrev u32 : Kind
+u32 = kindOf 6
+
 abbrev u64 : Kind
 u64 = kindOf 7
 
@@ -55,6 +61,10 @@ three = entry 0x7ff8_0000_0000_0000 9 ∷ entry 0 7 ∷ entry 0 8 ∷ []
 -- "position, value, -MAX, MAX": past f32, the value v
 abbrev past-f32 : ℕ → Outcome
 past-f32 v = FloatOutOfRange v 0xc7ef_ffff_e000_0000 0x47ef_ffff_e000_0000
+
+-- past f16
+abbrev past-f16 : ℕ → Outcome
+past-f16 v = FloatOutOfRange v 0xc0ef_fc00_0000_0000 0x40ef_fc00_0000_0000
 
 pub record Sample : Type 0 where
   pub got : Outcome
@@ -150,6 +160,68 @@ pub samples-hold : map (λ (s : Sample). s .got) samples ≡ map (λ (s : Sample
 unfolding samples ternaryOf outcomeOf beyond nanPattern patternOf valueOf lowest highest pick bitsMag size
 samples-hold = refl
 
+-- ---- half precision: each row is one of "65519 u16 gives 65504 and 65520 is refused by 7" or tells a false cast apart
+unfoldable pub half-samples : List Sample
+half-samples =
+    -- u16 65519 and 65520, under none and clamp; 65535 towards zero is MAX, and u32 65536 is not; -65520 clamped has its sign
+    row u16 f16 NearestEven None [] 65519 (Stored 0x7bff Rounded)
+    ∷ row u16 f16 NearestEven None [] 65520 (past-f16 0x40ef_fe00_0000_0000)
+    ∷ row u16 f16 NearestEven Clamp [] 65520 (Stored 0x7c00 Clamped)
+    ∷ row u16 f16 TowardsZero None [] 65535 (Stored 0x7bff Rounded)
+    ∷ row u32 f16 TowardsZero None [] 65536 (past-f16 0x40f0_0000_0000_0000)
+    ∷ row i32 f16 NearestEven Clamp [] (2 ^ 32 - 65520) (Stored 0xfc00 Clamped)
+    -- 2^64 - 1, whose exponent is far past the last of f16
+    ∷ row u64 f16 TowardsZero Clamp [] (2 ^ 64 - 1) (Stored 0x7c00 Clamped)
+    -- 65504 and 2049, which has 12 significant bits: once exact, once a tie
+    ∷ row u16 f16 NearestEven None [] 65504 (Stored 0x7bff Exact)
+    ∷ row u16 f16 NearestEven None [] 2049 (Stored 0x6800 Rounded)
+    ∷ row u16 f16 NearestAway None [] 2049 (Stored 0x6801 Rounded)
+    -- 65520 - 2^-20 is below the tie, 65520 the tie, and 65536 past any rule
+    ∷ row f64 f16 NearestEven None [] 0x40ef_fdff_fffe_0000 (Stored 0x7bff Rounded)
+    ∷ row f64 f16 NearestEven None [] 0x40ef_fe00_0000_0000 (past-f16 0x40ef_fe00_0000_0000)
+    ∷ row f64 f16 TowardsZero None [] 0x40ef_ffff_ffff_ffff (Stored 0x7bff Rounded)
+    ∷ row f64 f16 TowardsZero None [] 0x40f0_0000_0000_0000 (past-f16 0x40f0_0000_0000_0000)
+    -- 1 + 2^-11 + 2^-40: by way of f32 it would be a tie, and 3c00
+    ∷ row f64 f16 NearestEven None [] 0x3ff0_0200_0000_1000 (Stored 0x3c01 Rounded)
+    -- 1 + 2^-11 of f32, a tie, and the next f32 above it
+    ∷ row f32 f16 NearestEven None [] 0x3f80_1000 (Stored 0x3c00 Rounded)
+    ∷ row f32 f16 NearestEven None [] 0x3f80_1001 (Stored 0x3c01 Rounded)
+    -- 2^-25, half of the smallest number
+    ∷ row f64 f16 NearestEven None [] 0x3e60_0000_0000_0000 (Stored 0 Rounded)
+    ∷ row f64 f16 NearestAway None [] 0x3e60_0000_0000_0000 (Stored 1 Rounded)
+    -- about the largest subnormal, 03ff: halfway to the number below it, and halfway to the smallest normal number
+    ∷ row f64 f16 NearestEven None [] 0x3f0f_f400_0000_0000 (Stored 0x03fe Rounded)
+    ∷ row f64 f16 NearestEven None [] 0x3f0f_f800_0000_0000 (Stored 0x03ff Exact)
+    ∷ row f64 f16 NearestEven None [] 0x3f0f_fc00_0000_0000 (Stored 0x0400 Rounded)
+    ∷ row f64 f16 TowardsZero None [] 0x3f0f_fc00_0000_0000 (Stored 0x03ff Rounded)
+    -- from f16: the largest subnormal, the smallest negative number, MAX, -0
+    ∷ row f16 f64 NearestEven None [] 0x03ff (Stored 0x3f0f_f800_0000_0000 Exact)
+    ∷ row f16 f32 NearestEven None [] 0x8001 (Stored 0xb380_0000 Exact)
+    ∷ row f16 u16 NearestEven None [] 0x7bff (Stored 65504 Exact)
+    ∷ row f16 f32 NearestEven None [] 0x8000 (Stored 0x8000_0000 Exact)
+    -- infinities pass
+    ∷ row f64 f16 NearestEven None [] 0xfff0_0000_0000_0000 (Stored 0xfc00 Exact)
+    ∷ row f16 f64 NearestEven None [] 0x7c00 (Stored 0x7ff0_0000_0000_0000 Exact)
+    -- "a NaN from f64 or f32 keeps its sign and its top ten fraction bits, with the highest set"
+    ∷ row f64 f16 NearestEven None [] 0xfff0_0400_0000_0001 (Stored 0xfe01 Exact)
+    ∷ row f64 f16 NearestEven None [] 0x7ff0_0000_0000_0001 (Stored 0x7e00 Exact)
+    ∷ row f32 f16 NearestEven None [] 0xff80_2001 (Stored 0xfe01 Exact)
+    -- "from f16 to f32 or f64 the fraction goes to the top, likewise"; to f16 it is unchanged; refused, it is the widened one
+    ∷ row f16 f64 NearestEven None [] 0xfc01 (Stored 0xfff8_0400_0000_0000 Exact)
+    ∷ row f16 f32 NearestEven None [] 0xfc01 (Stored 0xffc0_2000 Exact)
+    ∷ row f16 f16 NearestEven None [] 0xfc01 (Stored 0xfc01 Exact)
+    ∷ row f16 u8 NearestEven None [] 0xfc01 (NanOrInf 0xfff8_0400_0000_0000)
+    -- keys +0 and -0: either zero is matched by the first; a target is stored as it stands
+    ∷ row f16 u8 NearestEven None (entry 0 7 ∷ entry 0x8000 8 ∷ []) 0x8000 (Stored 7 Mapped)
+    ∷ row f16 u8 NearestEven None (entry 0x8000 8 ∷ entry 0 7 ∷ []) 0 (Stored 8 Mapped)
+    ∷ row f16 u8 NearestEven None (entry 0x7e00 9 ∷ []) 0xfc01 (Stored 9 Mapped)
+    ∷ row u8 f16 NearestEven None (entry 255 0xfc01 ∷ []) 255 (Stored 0xfc01 Mapped)
+    ∷ []
+
+pub half-samples-hold : map (λ (s : Sample). s .got) half-samples ≡ map (λ (s : Sample). s .wanted) half-samples
+unfolding half-samples ternaryOf outcomeOf beyond nanPattern patternOf valueOf lowest highest pick bitsMag size
+half-samples-hold = refl
+
 -- ---- whole calls: the answer, the counts, and the destination's bytes
 pub record Left : Type 0 where
   pub answer : Answer
@@ -206,13 +278,14 @@ chunks =
     ∷ call (one-of-each 2) A.Converted (five 1 1 1 0 1) (7 ∷ 1 ∷ 2 ∷ 44 ∷ [])
     -- 1: "a kind, rounding or range code not listed"; "Numbers 1 to 4 are tested in that order": whatever else is broken
     ∷ call (mixed 3) A.UnknownCode noCounts (old 5)
-    ∷ call (inputs (0 ∷ []) (old 3) (0 ∷ []) [] 9 10 0 0) A.UnknownCode noCounts (old 3)
+    ∷ call (inputs (0 ∷ []) (old 3) (0 ∷ []) [] 9 11 0 0) A.UnknownCode noCounts (old 3)
     ∷ call (inputs (0 ∷ []) (old 3) (0 ∷ []) [] 9 9 5 0) A.UnknownCode noCounts (old 3)
     -- 8: "wrap with target kind f32 or f64, directly after 1": "empty chunks included", 1 f64, and a broken map or elements; a bad rounding code is 1
     ∷ call (inputs [] [] [] [] 9 8 0 2) A.BarredWrap noCounts []
     ∷ call (inputs (toLe 8 0x3ff0_0000_0000_0000) (old 8) [] [] 9 9 0 2) A.BarredWrap noCounts (old 8)
     ∷ call (inputs (0 ∷ []) (old 1) [] [] 9 8 0 2) A.BarredWrap noCounts (old 1)
     ∷ call (inputs (0 ∷ []) (old 4) (0 ∷ []) [] 4 8 0 2) A.BarredWrap noCounts (old 4)
+    ∷ call (inputs [] [] [] [] 9 10 0 2) A.BarredWrap noCounts []
     ∷ call (inputs [] [] [] [] 9 8 5 2) A.UnknownCode noCounts []
     -- clamp to a float is permitted
     ∷ call (inputs [] [] [] [] 9 8 0 1) A.Converted noCounts []
@@ -232,6 +305,8 @@ chunks =
     ∷ call (plain (toLe 8 0x4072_c000_0000_0000) (old 1) 0) (A.OutOfRange 0 0x4072_c000_0000_0000 (pos 0) 255) noCounts (old 1)
     -- 7: "pick past a float target", "with range code 0 only": 1, 2^128 f64 to f32
     ∷ call (inputs (toLe 8 0x3ff0_0000_0000_0000 ++ toLe 8 0x47f0_0000_0000_0000) (old 8) [] [] 9 8 0 0) (A.FloatOutOfRange 1 0x47f0_0000_0000_0000 0xc7ef_ffff_e000_0000 0x47ef_ffff_e000_0000) (five 0 1 0 0 0) (toLe 4 0x3f80_0000 ++ (0xa4 ∷ 0xa5 ∷ 0xa6 ∷ 0xa7 ∷ []))
+    -- "An integer may now overrun a float target": 1, 65520 u16 to f16
+    ∷ call (inputs (toLe 2 1 ++ toLe 2 65520) (old 4) [] [] 5 10 0 0) (A.FloatOutOfRange 1 0x40ef_fe00_0000_0000 0xc0ef_fc00_0000_0000 0x40ef_fc00_0000_0000) (five 0 1 0 0 0) (toLe 2 0x3c00 ++ (0xa2 ∷ 0xa3 ∷ []))
     ∷ []
 
 pub chunks-hold : map (λ (s : Chunk). left (s .inputs)) chunks ≡ map (λ (s : Chunk). s .wanted) chunks

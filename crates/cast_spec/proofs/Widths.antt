@@ -1,17 +1,16 @@
 -- The bytes of an element of a listed kind.
 use mathlib.Core.Path.{_≡_, refl, sym, ap, subst, _∙_}
-use mathlib.Core.Bool.{Bool, true, false, cond}
 use mathlib.Core.Logic.{inl, inr}
 use Prim.Native.Nat.{ℕ, zero, suc, _-_, _*_, _/_, _^_, _<_}
 use native.Mathlib.Nat.{mul-div-right}
 use native.Mathlib.Omega.{arith}
-use lib.Dec.{ltb, eqb, lit<}
+use lib.Dec.{lit<}
 use Rattle.bytes_le.specs.Bytes.{Width}
 use Rattle.bytes_le.proofs.Sums.{byte-patterns}
 use Rattle.bytes_le.proofs.Widths.{positive-width}
-use Rattle.patterns.specs.Kind.{Kind, integer, f32, f64, bits, width}
+use Rattle.patterns.specs.Kind.{Kind, bits, width}
 use Rattle.kinds.specs.Table.{kindOf}
-use Rattle.kinds.proofs.Listed.{by-kind}
+use Rattle.kinds.proofs.Listed.{by-kind, by-any-code}
 
 bytes-of-bits : (m : ℕ) → 8 * m / 8 ≡ m
 bytes-of-bits m = mul-div-right m (lit< tt)
@@ -24,24 +23,18 @@ power-width (suc (suc zero)) h = inr (inr (inl refl))
 power-width (suc (suc (suc zero))) h = inr (inr (inr refl))
 power-width (suc (suc (suc (suc c)))) h = absurd (omega arith)
 
-pub listed-width : (code : ℕ) → code < 10 → Width (width (kindOf code))
-listed-width = by-kind (λ (k : Kind). Width (width k)) (λ s c h. subst Width (sym (bytes-of-bits (2 ^ c))) (power-width c h)) (inr (inr (inl refl))) (inr (inr (inr refl)))
+pub listed-width : (code : ℕ) → code < 11 → Width (width (kindOf code))
+listed-width = by-kind (λ (k : Kind). Width (width k)) (λ s c h. subst Width (sym (bytes-of-bits (2 ^ c))) (power-width c h)) (inr (inr (inl refl))) (inr (inr (inr refl))) (inr (inl refl))
 
-pub width-pos : (code : ℕ) → code < 10 → 0 < width (kindOf code)
+pub width-pos : (code : ℕ) → code < 11 → 0 < width (kindOf code)
 width-pos code h = positive-width (listed-width code h)
 
--- ---- 8 bits each, of any code: one that is not listed is read as that of f64
+-- ---- 8 bits each, of any code: one that is not listed is read as that of f16
 abbrev Whole : Kind → Type 0
 Whole k = 8 * width k ≡ bits k
 
 pub width-bits : (code : ℕ) → Whole (kindOf code)
-width-bits code = go (ltb code 4) (ltb code 8) (eqb code 8)
-  where
-    go : (x y z : Bool) → Whole (cond x (integer true (8 * 2 ^ code)) (cond y (integer false (8 * 2 ^ (code - 4))) (cond z f32 f64)))
-    go true y z = ap (λ (m : ℕ). 8 * m) (bytes-of-bits (2 ^ code))
-    go false true z = ap (λ (m : ℕ). 8 * m) (bytes-of-bits (2 ^ (code - 4)))
-    go false false true = refl
-    go false false false = refl
+width-bits = by-any-code Whole (λ s c. ap (λ (m : ℕ). 8 * m) (bytes-of-bits (2 ^ c))) refl refl refl
 
 -- so the patterns of the bytes are those of the bits
 pub kind-fits : (code : ℕ) → 256 ^ width (kindOf code) ≡ 2 ^ bits (kindOf code)

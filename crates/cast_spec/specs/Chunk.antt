@@ -59,9 +59,9 @@ module _ (I : Inputs) where
 
   -- not 1: "a kind, rounding or range code not listed"
   abbrev pub codesListed : Bool
-  codesListed = ltb (I .from) 10 && ltb (I .to) 10 && ltb (I .rounding) 5 && ltb (I .range) 3
+  codesListed = ltb (I .from) 11 && ltb (I .to) 11 && ltb (I .rounding) 5 && ltb (I .range) 3
 
-  -- not 8: "wrap with target kind f32 or f64"
+  -- not 8: "wrap with target kind f32 or f64", and to f16
   abbrev pub wrapPermitted : Bool
   wrapPermitted = not (wrapBarred (I .to) (I .range))
 

@@ -14,8 +14,8 @@ fn show(name: &[u8], input: &[u8]) {
 fn short() {
     show(b"no input\n", b"");
     show(b"five bytes\n", b"\x09\x04\x00\x00\x00");
-    show(b"source kind 10\n", b"\x0a\x04\x00\x00\x00\x00");
-    show(b"target kind 10\n", b"\x09\x0a\x00\x00\x00\x00");
+    show(b"source kind 11\n", b"\x0b\x04\x00\x00\x00\x00");
+    show(b"target kind 11\n", b"\x09\x0b\x00\x00\x00\x00");
     show(b"rounding 5\n", b"\x09\x04\x05\x00\x00\x00");
     show(b"range 3\n", b"\x09\x04\x00\x03\x00\x00");
     show(b"range 3, missing map\n", b"\x09\x04\x00\x03\x01\x00");
@@ -33,6 +33,7 @@ fn barred() {
         b"wrap to f32, broken element\n",
         b"\x09\x08\x00\x02\x00\x00\x00",
     );
+    show(b"wrap to f16, empty chunk\n", b"\x09\x0a\x00\x02\x00\x00");
     show(b"wrap to f32, rounding 5\n", b"\x09\x08\x05\x02\x00\x00");
     show(b"clamp to f32, empty chunk\n", b"\x09\x08\x00\x01\x00\x00");
 }
@@ -139,6 +140,30 @@ fn to_floats() {
     );
 }
 
+// Chunks to f16 and from it, four digits each.
+fn halves() {
+    show(
+        b"u16 to f16, 65519 and 65520\n",
+        b"\x05\x0a\x00\x00\x00\x00\xef\xff\xf0\xff",
+    );
+    show(
+        b"u16 to f16, 65520 clamped\n",
+        b"\x05\x0a\x00\x01\x00\x00\xf0\xff",
+    );
+    show(
+        b"f64 to f16, 1 + 2^-11 + 2^-40 and a NaN\n",
+        b"\x09\x0a\x00\x00\x00\x00\x00\x10\x00\x00\x00\x02\xf0\x3f\x01\x00\x00\x00\x00\x04\xf0\xff",
+    );
+    show(
+        b"f16 to f32, the largest subnormal and a NaN\n",
+        b"\x0a\x08\x00\x00\x00\x00\xff\x03\x01\xfc",
+    );
+    show(
+        b"f16 to f16, a map: 0 to 3c00, -0 to 4000\n",
+        b"\x0a\x0a\x00\x00\x02\x00\x00\x00\x00\x80\x00\x3c\x00\x40\x00\x80\x01\x00",
+    );
+}
+
 // Inputs of 8,192 bytes and of one more. With 4,093 entries of two bytes the map ends at byte 8,192; with 2,729 of three it ends
 // one byte later, and all of it is there.
 fn long() {
@@ -154,8 +179,8 @@ fn long() {
     whole[4] = 0xa9;
     whole[5] = 0x0a;
     show(b"a map past byte 8,192\n", &whole);
-    whole[1] = 10;
-    show(b"a map past byte 8,192, target kind 10\n", &whole);
+    whole[1] = 11;
+    show(b"a map past byte 8,192, target kind 11\n", &whole);
     whole[1] = 8;
     whole[3] = 2;
     show(b"wrap to f32, longer input\n", &whole);
@@ -168,5 +193,6 @@ fn main() {
     refused();
     converted();
     to_floats();
+    halves();
     long();
 }

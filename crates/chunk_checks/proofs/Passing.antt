@@ -58,7 +58,7 @@ module _ (I : Inputs) where
 
 -- ---- a call that passes
 module _ (I : Inputs) (pass : allPass (checksOf I) ≡ true) where
-  kinds-listed : (I .from < 10) × (I .to < 10)
+  kinds-listed : (I .from < 11) × (I .to < 11)
   kinds-listed = listed-kinds (I .from) (I .to) (I .rounding) (I .range) (parts (codesListed I) _ pass .0)
 
   pub passes : T (callOf I .passed)

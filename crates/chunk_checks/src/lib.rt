@@ -17,7 +17,7 @@ pub enum Checked {
 
 // The settings of listed codes and of so many bytes of keys.
 fn settings_of(from: u8, to: u8, rounding: u8, range: u8, keys: usize) -> Settings
-    requires { ⌜ (from < 10) × (to < 10) ⌝ }
+    requires { ⌜ (from < 11) × (to < 11) ⌝ }
     ensures { λ r. ⌜ r ≡ settingsBy from to rounding range keys ⌝ }
 {
     let source = kinds::row_of(from);

@@ -23,6 +23,6 @@ rangeOf zero = None
 rangeOf (suc zero) = Clamp
 rangeOf (suc (suc n)) = Wrap
 
--- "wrap with target kind f32 or f64", which the codec text does not permit
+-- "wrap with target kind f32 or f64", which the codec text does not permit; "From now on 8 bars wrap to f16 too"
 abbrev pub wrapBarred : ℕ → ℕ → Bool
 wrapBarred to range = eqb range 2 && isFloat (kindOf to)

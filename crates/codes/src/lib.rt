@@ -13,7 +13,7 @@ pub enum OutOfRangeMode {
 }
 
 // How many kind codes, rounding codes and range codes are listed: those from 0 on.
-const LISTED_KINDS: u8 = 10;
+const LISTED_KINDS: u8 = 11;
 
 const LISTED_ROUNDINGS: u8 = 5;
 
@@ -36,7 +36,7 @@ pub fn rules_listed(rounding: u8, range: u8) -> bool
 
 // Whether every code of a call is listed.
 pub fn codes_listed(from: u8, to: u8, rounding: u8, range: u8) -> bool
-    ensures { λ r. ⌜ r ≡ ltb from 10 && ltb to 10 && ltb rounding 5 && ltb range 3 ⌝ }
+    ensures { λ r. ⌜ r ≡ ltb from 11 && ltb to 11 && ltb rounding 5 && ltb range 3 ⌝ }
 {
     if LISTED_KINDS <= from {
         return false;

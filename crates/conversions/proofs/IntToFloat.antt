@@ -1,6 +1,5 @@
 -- An integer element going to a float kind: the f64 that is its pick has the pick's bits there, for any narrower format and for f64 itself.
 use mathlib.Core.Path.{_≡_, sym, ap, subst, _∙_}
-use mathlib.Core.Logic.{⊎-elim}
 use Prim.Native.Nat.{ℕ, _-_, _*_, _^_, _≤_, _<_}
 use native.Mathlib.Nat.{zero-mul}
 use native.Mathlib.Omega.{arith}
@@ -20,11 +19,12 @@ use Rattle.patterns.specs.Float.{infBits}
 use Rattle.patterns.specs.Pattern.{magBits, withSign}
 use Rattle.patterns.proofs.Floats.{mag-lt}
 use Rattle.counts.specs.Counts.{byPick}
-use Rattle.kinds.specs.Row.{floatFormat, FloatRow}
+use Rattle.kinds.specs.Row.{FloatRow}
 use Rattle.counts.specs.declared.Fared.{Fared}
 use Rattle.kinds.specs.declared.FloatFormat.{FloatFormat}
 use Rattle.codes.specs.declared.OutOfRangeMode.{OutOfRangeMode}
 use Rattle.answers.specs.declared.Fit.the-variants.{Pattern}
+use Rattle.kinds.proofs.FloatRows.{by-row}
 use Rattle.floats.specs.Form.{CanonicalClass, scaledOf}
 use Rattle.floats.specs.declared.Class.the-variants.{Finite}
 use Rattle.floats.proofs.Values.{scaled-canonical}
@@ -40,9 +40,7 @@ use Rattle.conversions.specs.Fit.{fitInteger}
 
 -- a row's precision is one that an integer is rounded to
 pub row-precision : (f : FloatFormat) → FloatRow f → Precision (f .precision)
-row-precision f row = ⊎-elim
-    (λ (e : f ≡ floatFormat 24 8 925). let p = ap (λ (g : FloatFormat). g .precision) e in record { two = omega arith; at-most-53 = omega arith })
-    (λ (e : f ≡ floatFormat 53 11 0). let p = ap (λ (g : FloatFormat). g .precision) e in record { two = omega arith; at-most-53 = omega arith }) row
+row-precision = by-row (λ (f : FloatFormat). Precision (f .precision)) (record { two = lit≤ tt; at-most-53 = lit≤ tt }) (record { two = lit≤ tt; at-most-53 = lit≤ tt }) (record { two = lit≤ tt; at-most-53 = lit≤ tt })
 
 module _ (x : Integer) (small : x .magnitude < 2 ^ 64) (mode : RoundingMode) (range : OutOfRangeMode) (rounded : Rounded) where
   abbrev r : RoundingMode

@@ -56,6 +56,7 @@ pub fn convert_float_to_float(
 {
     let precision = to.precision;
     match precision {
+        11 => narrowing::narrow_f16(x, mode, range),
         24 => narrowing::narrow_f32(x, mode, range),
         _ => Fit::Pattern {
             pattern: floats::write_f64(x),
@@ -79,6 +80,7 @@ pub fn convert_int_to_float(
     let rounded = integers::int_to_f64_magnitude(x.magnitude, negative, precision, mode);
     let ternary = rounded.ternary;
     match precision {
+        11 => narrowing::rebias_f16(rounded.bits, ternary, negative, range),
         24 => narrowing::rebias_f32(rounded.bits, ternary, negative, range),
         _ => Fit::Pattern {
             pattern: floats::sign_bit(negative, 63) + rounded.bits,

@@ -1,6 +1,5 @@
 -- The fields of a refusal: an element's f64 is its pattern's, the ends are the row's, and number and values are the outcome's.
-use mathlib.Core.Path.{_≡_, refl, sym, ap, ap₂, subst, _∙_}
-use mathlib.Core.Logic.{⊎-elim}
+use mathlib.Core.Path.{_≡_, refl, ap, ap₂, _∙_}
 use Prim.Native.Nat.{ℕ}
 use Rattle.patterns.specs.Pattern.{asF64}
 use Rattle.kinds.specs.Row.{floatOf, integerOf, kindIn, FloatRow, IntegerRow}
@@ -17,6 +16,7 @@ use Rattle.cast_spec.specs.Chunk.{answerNext}
 use Rattle.cast_spec.specs.Fit.{pastRange}
 use Rattle.element.specs.Element.{CanonicalElement, FormatPattern, elementF64, elementOf}
 use Rattle.element.specs.Refusal.{RefusalOf}
+use Rattle.kinds.proofs.FloatRows.{by-row}
 use Rattle.element.proofs.FloatRows.{row-formed}
 use Rattle.element.proofs.Integers.{as-f64-is}
 
@@ -33,7 +33,7 @@ pub integer-ends : (f : IntegerFormat) → IntegerRow f → (v : ℕ) → OutOfR
 integer-ends f row v = ap₂ (OutOfRange v) (row .low) (row .high)
 
 pub float-ends : (f : FloatFormat) → FloatRow f → (v : ℕ) → FloatOutOfRange v (f .lowest) (f .highest) ≡ pastRange (floatOf f) v
-float-ends f row v = ⊎-elim (λ e. subst (λ (g : FloatFormat). FloatOutOfRange v (g .lowest) (g .highest) ≡ pastRange (floatOf g) v) (sym e) refl) (λ e. subst (λ (g : FloatFormat). FloatOutOfRange v (g .lowest) (g .highest) ≡ pastRange (floatOf g) v) (sym e) refl) row
+float-ends f row v = by-row (λ (g : FloatFormat). FloatOutOfRange v (g .lowest) (g .highest) ≡ pastRange (floatOf g) v) refl refl refl f row
 
 -- ---- the answer to a refusal has the number and the values of its outcome
 pub refusal-of : (i : ℕ) (o : Outcome) (r : Answer) → r ≡ answerNext o i Converted → RefusalOf i o r

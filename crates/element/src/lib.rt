@@ -29,6 +29,7 @@ pub fn read_float(b: u64, format: FloatFormat) -> Float
 {
     let precision = format.precision;
     match precision {
+        11 => floats::read_f16(b as u16),
         24 => floats::read_f32(b as u32),
         _ => floats::read_f64(b),
     }

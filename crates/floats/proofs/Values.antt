@@ -14,7 +14,7 @@ use Rattle.grid.specs.declared.RoundingMode.the-variants.{NearestEven}
 use Rattle.grid.proofs.Neighbours.{cut, finer, kept-lt, kept-full}
 use Rattle.grid.proofs.Picked.{pick-own}
 use Rattle.patterns.specs.Float.{bitsMag, infBits}
-use Rattle.patterns.specs.Kind.{Kind, binary, f32, f64}
+use Rattle.patterns.specs.Kind.{Kind, binary, f16, f32, f64}
 use Rattle.patterns.specs.Value.{Value, nan, inf, num, negative, valueOf}
 use Rattle.patterns.specs.Pattern.{asF64, asF64From, magBits, nanPattern, patternOf, withSign}
 use Rattle.patterns.proofs.AnyKind.{largest-bits, sign-of}
@@ -107,7 +107,11 @@ module _ (p w s : ℕ) (two : 2 ≤ p) (some : 0 < w) (most : p ≤ 53) (room : 
       written (inf n) v = ap (λ (c : Bool). withSign 64 c (infBits 53 11)) (sym (infinity-sign p w s b n v))
       written nan v = nans v .pattern
 
--- ---- f32 and f64
+-- ---- f16, f32 and f64
+pub f16-within-f64 : bitsMag 11 1050 (infBits 11 5 - 1) ≤ bitsMag 53 0 (infBits 53 11 - 1)
+unfolding bitsMag
+f16-within-f64 = lit≤ tt
+
 pub f32-within-f64 : bitsMag 24 925 (infBits 24 8 - 1) ≤ bitsMag 53 0 (infBits 53 11 - 1)
 unfolding bitsMag
 f32-within-f64 = lit≤ tt
@@ -132,6 +136,9 @@ own-nan b fits e =
   where
     split : (b : ℕ) → infBits 53 11 < b % 2 ^ 63 → b % 2 ^ 63 ≡ infBits 53 11 + b % 2 ^ 52
     split b h = omega arith
+
+pub f16-formed : (b : ℕ) → Formed f16 b
+f16-formed b = formed 11 5 1050 (lit≤ tt) (lit< tt) (lit≤ tt) f16-within-f64 b (λ _. narrower-nan 11 5 1050 b (lit< tt))
 
 pub f32-formed : (b : ℕ) → Formed f32 b
 f32-formed b = formed 24 8 925 (lit≤ tt) (lit< tt) (lit≤ tt) f32-within-f64 b (λ _. narrower-nan 24 8 925 b (lit< tt))

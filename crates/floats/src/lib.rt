@@ -3,7 +3,7 @@
 ghost use mathlib.Core.Path.{_≡_};
 ghost use mathlib.Core.Bool.{cond};
 ghost use Prim.Native.Nat.{_*_, _^_, _<_, _≤_};
-ghost use Rattle.patterns.specs.Kind.{f32, f64};
+ghost use Rattle.patterns.specs.Kind.{f16, f32, f64};
 ghost use Rattle.floats.specs.Parts.{partsOf};
 ghost use Rattle.floats.specs.Form.{scaledOf, finiteFloat, infiniteOrNan, floatOf, Canonical, CanonicalClass, finiteBits, f64Of};
 
@@ -52,6 +52,17 @@ pub fn parts_f32(b: u32) -> Parts
         negative: b >> 31 == 1,
         exponent: ((b >> 23) & 0xff) as u64,
         fraction: (b & 0x7f_ffff) as u64,
+    }
+}
+
+// The three fields of an f16's bits.
+pub fn parts_f16(b: u16) -> Parts
+    ensures { λ r. ⌜ r ≡ partsOf 11 5 b ⌝ }
+{
+    Parts {
+        negative: b >> 15 == 1,
+        exponent: ((b >> 10) & 0x1f) as u64,
+        fraction: (b & 0x3ff) as u64,
     }
 }
 
@@ -131,6 +142,26 @@ pub fn read_f32(b: u32) -> Float
         1..=254 => finite(parts.negative, (0x80_0000 + fraction) << 29, exponent + 895),
         255.. => {
             let top = (fraction & 0x3f_ffff) << 29;
+            infinite_or_nan(parts.negative, fraction, 0x8_0000_0000_0000 + top)
+        }
+    }
+}
+
+// An f16's bits as an element; a NaN's highest fraction bit is set.
+pub fn read_f16(b: u16) -> Float
+    ensures { λ r. ⌜ r ≡ floatOf f16 b ⌝ }
+{
+    let parts = parts_f16(b);
+    let exponent = parts.exponent;
+    let fraction = parts.fraction;
+    match exponent {
+        0 => {
+            let x = normalize(fraction, 1050);
+            finite(parts.negative, x.significand, x.exponent)
+        }
+        1..=30 => finite(parts.negative, (0x400 + fraction) << 42, exponent + 1007),
+        31.. => {
+            let top = (fraction & 0x1ff) << 42;
             infinite_or_nan(parts.negative, fraction, 0x8_0000_0000_0000 + top)
         }
     }

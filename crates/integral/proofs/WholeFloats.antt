@@ -157,6 +157,10 @@ module _ (p w s : ℕ) (mode : RoundingMode) (b : ℕ) (x : Float) (is : x ≡ f
         ap (pickMag (float p s) (ruleFor neg mode)) (scaled-whole P (finer p s 53 0 P most (omega arith) own-grid))
         ∙ ap natAbs (picked-pos (float p s) two (ruleFor neg mode) P .itself own-grid)
 
+pub f16-top : OnMag (whole 1074) (bitsMag 11 1050 (infBits 11 5 - 1))
+unfolding bitsMag
+f16-top = record { m = (2 ^ 11 - 1) * 2 ^ 5; e = 1074; written = (refl, refl) }
+
 pub f32-top : OnMag (whole 1074) (bitsMag 24 925 (infBits 24 8 - 1))
 unfolding bitsMag
 f32-top = record { m = (2 ^ 24 - 1) * 2 ^ 104; e = 1074; written = (refl, refl) }

@@ -1,11 +1,13 @@
 // A float rounded to a whole number in its own format, and the lowest bits of an f64's whole part.
 ghost use mathlib.Core.Path.{_≡_};
 ghost use Prim.Native.Nat.{_*_, _^_, _<_, _≤_};
-ghost use Rattle.patterns.specs.Kind.{f32, f64};
-ghost use Rattle.floats.specs.Form.{Canonical};
+ghost use Rattle.patterns.specs.Kind.{binary, f16, f32, f64};
+ghost use Rattle.floats.specs.Form.{Canonical, CanonicalClass, floatOf};
+ghost use Rattle.narrowing.specs.Format.{Narrower, FormatBits};
 ghost use Rattle.integral.specs.Integral.{roundedOf, wrappedOf};
-ghost use Rattle.integral.specs.Whole.{integralOf};
+ghost use Rattle.integral.specs.Whole.{integralOf, WholeTop};
 use floats::Class;
+use floats::Float;
 use floats::Scaled;
 use grid::Rounded;
 use grid::RoundingMode;
@@ -58,27 +60,42 @@ pub fn round_with_mode_f64(b: u64, mode: RoundingMode) -> Rounded
     }
 }
 
-// An f32 likewise; the whole number has f32's precision, so writing it rounds nothing.
-pub fn round_with_mode_f32(b: u32, mode: RoundingMode) -> Rounded
-    ensures { λ r. ⌜ r ≡ roundedOf f32 mode b ⌝ }
+// The element x of the pattern b likewise, in the format of p significant bits, w bits of exponent field and the smallest spacing 2^s. The whole
+// number has the format's precision, so writing it rounds nothing.
+fn round_narrower(b: u64, x: Float, p: u32, w: u32, s: u64, mode: RoundingMode) -> Rounded
+    requires { ⌜ (x ≡ floatOf (binary p w s) b) × CanonicalClass (x .class) × Narrower p s × FormatBits p w × WholeTop p w s ⌝ }
+    ensures { λ r. ⌜ r ≡ roundedOf (binary p w s) mode b ⌝ }
 {
-    let x = floats::read_f32(b);
     let negative = x.negative;
     let class = x.class;
     let Class::Finite(magnitude) = class else {
         return Rounded {
-            bits: b as u64,
+            bits: b,
             ternary: Ternary::Exact,
         };
     };
     let whole = integral(magnitude, mode, negative);
     let rounded = whole.magnitude;
     let ternary = whole.ternary;
-    let written = narrowing::narrow_magnitude(rounded, 24, 925, mode, negative);
+    let written = narrowing::narrow_magnitude(rounded, p, s, mode, negative);
     Rounded {
-        bits: floats::sign_bit(negative, 31) + written.bits,
+        bits: floats::sign_bit(negative, w + p - 1) + written.bits,
         ternary: ternary,
     }
+}
+
+// An f32 likewise.
+pub fn round_with_mode_f32(b: u32, mode: RoundingMode) -> Rounded
+    ensures { λ r. ⌜ r ≡ roundedOf f32 mode b ⌝ }
+{
+    round_narrower(b as u64, floats::read_f32(b), 24, 8, 925, mode)
+}
+
+// An f16 likewise.
+pub fn round_with_mode_f16(b: u16, mode: RoundingMode) -> Rounded
+    ensures { λ r. ⌜ r ≡ roundedOf f16 mode b ⌝ }
+{
+    round_narrower(b as u64, floats::read_f16(b), 11, 5, 1050, mode)
 }
 
 // The lowest bits of an f64's whole part, two's complement; 0 for an infinity and a NaN, which have none.

@@ -37,4 +37,4 @@ F64 = record { precision = 53; «exponent_bits» = 11; lowest = 0xffef_ffff_ffff
 
 pub f64-row : FloatRow F64
 unfolding valueOf patternOf pick bitsMag size
-f64-row = inr refl
+f64-row = inr (inl refl)

@@ -1,14 +1,19 @@
--- The float rows by their precision: 24 is f32's alone, and any other is f64's.
-use mathlib.Core.Path.{_≡_, sym, ap, _∙_}
+-- The float rows: what holds of each holds of a row, and by their precision: 24 is f32's alone, 11 is f16's, and any other is f64's.
+use mathlib.Core.Path.{_≡_, refl, sym, subst}
 use mathlib.Core.Logic.{⊎-elim}
-use Prim.Native.Nat.{ℕ}
 use native.Mathlib.Omega.{arith}
 use Rattle.kinds.specs.Row.{floatFormat, FloatRow}
 use Rattle.kinds.specs.declared.FloatFormat.{FloatFormat}
 
-module _ (f : FloatFormat) (row : FloatRow f) where
-  pub single : f .precision ≡ 24 → f ≡ floatFormat 24 8 925
-  single p = ⊎-elim (λ (e : f ≡ floatFormat 24 8 925). e) (λ (e : f ≡ floatFormat 53 11 0). let z : _≡_ {A = ℕ} 53 24 = sym (ap (λ (g : FloatFormat). g .precision) e) ∙ p in absurd (omega arith)) row
+pub by-row {ℓ} : (P : FloatFormat → Type ℓ) → P (floatFormat 11 5 1050) → P (floatFormat 24 8 925) → P (floatFormat 53 11 0) → (f : FloatFormat) → FloatRow f → P f
+by-row P half single double f row = ⊎-elim (λ e. subst P (sym e) single) (λ r. ⊎-elim (λ e. subst P (sym e) double) (λ e. subst P (sym e) half) r) row
 
-  pub double : (f .precision ≡ 24 → ⊥) → f ≡ floatFormat 53 11 0
-  double n = ⊎-elim (λ (e : f ≡ floatFormat 24 8 925). absurd (n (ap (λ (g : FloatFormat). g .precision) e))) (λ (e : f ≡ floatFormat 53 11 0). e) row
+module _ (f : FloatFormat) (row : FloatRow f) where
+  pub half : f .precision ≡ 11 → f ≡ floatFormat 11 5 1050
+  half = by-row (λ (g : FloatFormat). g .precision ≡ 11 → g ≡ floatFormat 11 5 1050) (λ _. refl) (λ (e : 24 ≡ 11). absurd (omega arith)) (λ (e : 53 ≡ 11). absurd (omega arith)) f row
+
+  pub single : f .precision ≡ 24 → f ≡ floatFormat 24 8 925
+  single = by-row (λ (g : FloatFormat). g .precision ≡ 24 → g ≡ floatFormat 24 8 925) (λ (e : 11 ≡ 24). absurd (omega arith)) (λ _. refl) (λ (e : 53 ≡ 24). absurd (omega arith)) f row
+
+  pub double : (f .precision ≡ 11 → ⊥) → (f .precision ≡ 24 → ⊥) → f ≡ floatFormat 53 11 0
+  double = by-row (λ (g : FloatFormat). (g .precision ≡ 11 → ⊥) → (g .precision ≡ 24 → ⊥) → g ≡ floatFormat 53 11 0) (λ n _. absurd (n refl)) (λ _ n. absurd (n refl)) (λ _ _. refl) f row

@@ -45,9 +45,9 @@ pub record IntegerRow (f : IntegerFormat) : Type 0 where
   pub low : f .lowest ≡ lowInt (f .signed) (f .bits)
   pub high : f .highest ≡ highInt (f .signed) (f .bits)
 
--- the format of f32 or of f64
+-- the format of f32, of f64 or of f16
 abbrev pub FloatRow : FloatFormat → Type 0
-FloatRow f = (f ≡ floatFormat 24 8 925) ⊎ (f ≡ floatFormat 53 11 0)
+FloatRow f = (f ≡ floatFormat 24 8 925) ⊎ ((f ≡ floatFormat 53 11 0) ⊎ (f ≡ floatFormat 11 5 1050))
 
 abbrev pub FormatRow : Format → Type 0
 FormatRow (Integer f) = IntegerRow f

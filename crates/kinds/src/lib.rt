@@ -1,4 +1,4 @@
-// The ten number kinds, in one constant table.
+// The eleven number kinds, in one constant table.
 ghost use mathlib.Core.Path.{_≡_};
 ghost use Prim.Native.Nat.{_<_};
 ghost use Rattle.kinds.specs.Table.{kindOf};
@@ -32,7 +32,7 @@ pub struct KindRow {
     pub format: Format,
 }
 
-// ---- the formats of the ten kinds
+// ---- the formats of the eleven kinds
 
 const I8: IntegerFormat = IntegerFormat {
     bits: 8,
@@ -90,6 +90,13 @@ const U64: IntegerFormat = IntegerFormat {
     highest: 18446744073709551615,
 };
 
+const F16: FloatFormat = FloatFormat {
+    precision: 11,
+    exponent_bits: 5,
+    lowest: 0xc0ef_fc00_0000_0000,
+    highest: 0x40ef_fc00_0000_0000,
+};
+
 pub const F32: FloatFormat = FloatFormat {
     precision: 24,
     exponent_bits: 8,
@@ -104,8 +111,8 @@ pub const F64: FloatFormat = FloatFormat {
     highest: 0x7fef_ffff_ffff_ffff,
 };
 
-// The ten kinds, in the order of their codes.
-const KINDS: [KindRow; 10] = [
+// The eleven kinds, in the order of their codes.
+const KINDS: [KindRow; 11] = [
     KindRow {
         bytes: 1,
         format: Format::Integer(I8),
@@ -146,11 +153,15 @@ const KINDS: [KindRow; 10] = [
         bytes: 8,
         format: Format::Float(F64),
     },
+    KindRow {
+        bytes: 2,
+        format: Format::Float(F16),
+    },
 ];
 
 // The row of a listed kind code.
 pub fn row_of(code: u8) -> KindRow
-    requires { ⌜ code < 10 ⌝ }
+    requires { ⌜ code < 11 ⌝ }
     ensures { λ r. ⌜ r ≡ rowOf (kindOf code) ⌝ }
 {
     KINDS[code as usize]

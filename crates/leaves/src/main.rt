@@ -34,6 +34,10 @@ fn wide(x: u32) -> u64 {
     x as u64
 }
 
+fn wide_16(x: u16) -> u64 {
+    x as u64
+}
+
 fn sign(negative: bool) {
     if negative {
         text(b" -");
@@ -89,6 +93,16 @@ fn parts_32(b: u32) {
     end();
 }
 
+fn parts_16(b: u16) {
+    let p = floats::parts_f16(b);
+    text(b"parts_f16");
+    number(wide_16(b), 4);
+    sign(p.negative);
+    number(p.exponent, 2);
+    number(p.fraction, 3);
+    end();
+}
+
 // The sign of a float, and a finite number's significand and exponent, or what else it is.
 fn put_float(x: Float) {
     sign(x.negative);
@@ -119,6 +133,12 @@ fn read_32(b: u32) {
     put_float(floats::read_f32(b));
 }
 
+fn read_16(b: u16) {
+    text(b"read_f16");
+    number(wide_16(b), 4);
+    put_float(floats::read_f16(b));
+}
+
 // The ends of the three ranges of an exponent field.
 fn float_readers() {
     read_64(0x000fffffffffffff);
@@ -131,6 +151,11 @@ fn float_readers() {
     read_32(0x7f7fffff);
     read_32(0xff800000);
     read_32(0x7f800001);
+    read_16(0x03ff);
+    read_16(0x8400);
+    read_16(0x7bff);
+    read_16(0xfc00);
+    read_16(0x7c01);
 }
 
 fn neighbours_64(b: u64) {
@@ -149,10 +174,25 @@ fn neighbours_32(b: u32) {
     end();
 }
 
+fn neighbours_16(b: u16) {
+    text(b"next_down_f16, next_up_f16");
+    number(wide_16(b), 4);
+    number(wide_16(neighbours::next_down_f16(b)), 4);
+    number(wide_16(neighbours::next_up_f16(b)), 4);
+    end();
+}
+
 fn widened(b: u32) {
     text(b"read_f32, write_f64");
     number(wide(b), 8);
     number(floats::write_f64(floats::read_f32(b)), 16);
+    end();
+}
+
+fn widened_16(b: u16) {
+    text(b"read_f16, write_f64");
+    number(wide_16(b), 4);
+    number(floats::write_f64(floats::read_f16(b)), 16);
     end();
 }
 
@@ -169,6 +209,11 @@ fn float_parts() {
     parts_32(0xff7fffff);
     parts_32(0x7f800000);
     parts_32(0x7fc00001);
+    parts_16(0x4100);
+    parts_16(0x0001);
+    parts_16(0xfbff);
+    parts_16(0x7c00);
+    parts_16(0x7e01);
 }
 
 fn float_neighbours() {
@@ -186,6 +231,15 @@ fn float_neighbours() {
     neighbours_64(0x7fefffffffffffff);
     neighbours_64(0xfff0000000000000);
     neighbours_64(0x3ff0000000000000);
+    // f16: the zeros, -2^-24, the largest numbers of both signs, the infinities, a NaN
+    neighbours_16(0x0000);
+    neighbours_16(0x8000);
+    neighbours_16(0x8001);
+    neighbours_16(0x7bff);
+    neighbours_16(0xfbff);
+    neighbours_16(0x7c00);
+    neighbours_16(0xfc00);
+    neighbours_16(0x7e01);
 }
 
 fn float_widths() {
@@ -196,6 +250,12 @@ fn float_widths() {
     widened(0x7f7fffff);
     widened(0xff800000);
     widened(0x7f800001);
+    widened_16(0x8000);
+    widened_16(0x0001);
+    widened_16(0x4100);
+    widened_16(0x7bff);
+    widened_16(0xfc00);
+    widened_16(0x7c01);
 }
 
 // ---- rounding to a whole number
@@ -246,6 +306,21 @@ fn rounded_32(b: u32) {
     end();
 }
 
+fn round_16(b: u16, mode: RoundingMode) {
+    put_rounded(integral::round_with_mode_f16(b, mode), 4);
+}
+
+fn rounded_16(b: u16) {
+    text(b"round_with_mode_f16");
+    number(wide_16(b), 4);
+    round_16(b, RoundingMode::NearestEven);
+    round_16(b, RoundingMode::TowardsZero);
+    round_16(b, RoundingMode::TowardsPositive);
+    round_16(b, RoundingMode::TowardsNegative);
+    round_16(b, RoundingMode::NearestAway);
+    end();
+}
+
 fn whole_numbers() {
     // 2.5, -0.5, 0.49999999999999994, -2^-1074, 2^52 - 0.5, 2^52 + 1, the largest number
     rounded_64(0x4004000000000000);
@@ -260,9 +335,15 @@ fn whole_numbers() {
     rounded_32(0x3effffff);
     rounded_32(0x4affffff);
     rounded_32(0x4b000001);
+    // 2.5, 0.49976, 2^10 - 0.5, 2^11 - 1, the largest number
+    rounded_16(0x4100);
+    rounded_16(0x37ff);
+    rounded_16(0x63ff);
+    rounded_16(0x67ff);
+    rounded_16(0x7bff);
 }
 
-// ---- one rounding to f32
+// ---- one rounding to f32 and to f16
 
 // How an element fared, by the first letter.
 fn put_fared(f: Fared) {
@@ -299,6 +380,22 @@ fn narrowed(b: u64) {
     narrow(b, RoundingMode::TowardsPositive);
     narrow(b, RoundingMode::TowardsNegative);
     narrow(b, RoundingMode::NearestAway);
+    end();
+}
+
+fn narrow_16(b: u64, mode: RoundingMode) {
+    let x = floats::read_f64(b);
+    put_fit(narrowing::narrow_f16(x, mode, OutOfRangeMode::None));
+}
+
+fn narrowed_16(b: u64) {
+    text(b"read_f64, narrow_f16");
+    number(b, 16);
+    narrow_16(b, RoundingMode::NearestEven);
+    narrow_16(b, RoundingMode::TowardsZero);
+    narrow_16(b, RoundingMode::TowardsPositive);
+    narrow_16(b, RoundingMode::TowardsNegative);
+    narrow_16(b, RoundingMode::NearestAway);
     end();
 }
 
@@ -343,13 +440,23 @@ fn rounded_once() {
     narrowed(0xb370000000000000);
     narrowed(0x7ff0000000000001);
     narrowed(0xfff8000020000000);
-    // 0, 16777217, its negative and 2^64 - 1 to 24 bits; 2^64 - 1 and -2^63 to 53
+    // to f16: 65520 - 2^-20, 65520, 65536, 1 + 2^-11 + 2^-40, 2^-25, halfway above the largest subnormal, a NaN
+    narrowed_16(0x40effdfffffe0000);
+    narrowed_16(0x40effe0000000000);
+    narrowed_16(0xc0f0000000000000);
+    narrowed_16(0x3ff0020000001000);
+    narrowed_16(0x3e60000000000000);
+    narrowed_16(0x3f0ffc0000000000);
+    narrowed_16(0xfff0040000000001);
+    // 0, 16777217, its negative and 2^64 - 1 to 24 bits; 2^64 - 1 and -2^63 to 53; 65519 and 65520 to 11
     rounded_integer(0x0000000000000000, false, 24);
     rounded_integer(0x0000000001000001, false, 24);
     rounded_integer(0x0000000001000001, true, 24);
     rounded_integer(0xffffffffffffffff, false, 24);
     rounded_integer(0xffffffffffffffff, false, 53);
     rounded_integer(0x8000000000000000, true, 53);
+    rounded_integer(0x000000000000ffef, false, 11);
+    rounded_integer(0x000000000000fff0, false, 11);
 }
 
 // ---- integers by sign and magnitude

@@ -27,7 +27,7 @@ use Rattle.listing.specs.Layouts.{CallFits}
 use Rattle.listing.proofs.Unchanged.{position-counted, same-report}
 
 -- ---- the widths of listed kinds
-module _ (code : ℕ) (listed : code < 10) (row : KindRow) (is : row ≡ rowOf (kindOf code)) where
+module _ (code : ℕ) (listed : code < 11) (row : KindRow) (is : row ≡ rowOf (kindOf code)) where
   pub row-listed : Width (row .bytes)
   row-listed = subst Width (sym (row-width (kindOf code) row is)) (listed-width code listed)
 

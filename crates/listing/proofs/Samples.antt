@@ -36,9 +36,11 @@ samples =
     -- "Fewer than six bytes prints `refused 1`"; a bad code "comes before these last two"
     ∷ row (9 ∷ 4 ∷ 0 ∷ 0 ∷ 0 ∷ []) (end (refused ++ (49 ∷ [])))
     ∷ row (head 9 4 0 3 1) (end (refused ++ (49 ∷ [])))
+    ∷ row (head 11 4 0 0 0) (end (refused ++ (49 ∷ [])))
     -- 8 "directly after 1", before missing map bytes: `refused 8`, with no position; a bad rounding code comes before it
     ∷ row (head 9 8 0 2 0) (end (refused ++ (56 ∷ [])))
     ∷ row (head 9 9 0 2 1 ++ toLe 9 0) (end (refused ++ (56 ∷ [])))
+    ∷ row (head 9 10 0 2 0) (end (refused ++ (56 ∷ [])))
     ∷ row (head 9 8 5 2 0) (end (refused ++ (49 ∷ [])))
     -- "missing map bytes `refused 2`"
     ∷ row (head 9 4 0 0 1 ++ toLe 8 0) (end (refused ++ (50 ∷ [])))
@@ -48,6 +50,8 @@ samples =
     ∷ row (head 9 4 0 0 0) (end (ok ++ (48 ∷ [])))
     -- a map of 0 to 0x1234, u8 to u16: `ok 2`, `1234`, `00ab`
     ∷ row (head 4 5 0 0 1 ++ (0 ∷ []) ++ toLe 2 0x1234 ++ (0 ∷ 0xab ∷ [])) (end (ok ++ (50 ∷ [])) ++ end (49 ∷ 50 ∷ 51 ∷ 52 ∷ []) ++ end (48 ∷ 48 ∷ 97 ∷ 98 ∷ []))
+    -- 65519 and 65520 u16 to f16: `refused 7 at 1`, `7bff`
+    ∷ row (head 5 10 0 0 0 ++ toLe 2 65519 ++ toLe 2 65520) (end (refused ++ (55 ∷ []) ++ at ++ (49 ∷ [])) ++ end (55 ∷ 98 ∷ 102 ∷ 102 ∷ []))
     ∷ []
 
 pub samples-hold : map (λ (s : Sample). listingOf (s .input)) samples ≡ map (λ (s : Sample). s .wanted) samples

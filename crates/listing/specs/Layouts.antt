@@ -8,8 +8,8 @@ use Rattle.listing.specs.Listing.{keysEnd, mapEnd}
 -- the six bytes are there, and the kinds are listed
 pub record HeadIn (s : List ℕ) : Type 0 where
   pub six : 6 ≤ length s
-  pub from : getD s 0 0 < 10
-  pub to : getD s 1 0 < 10
+  pub from : getD s 0 0 < 11
+  pub to : getD s 1 0 < 11
 
 -- where the targets and the elements start
 abbrev pub layoutOf : List ℕ → Layout
@@ -17,8 +17,8 @@ layoutOf s = record { targets = keysEnd s; elements = mapEnd s }
 
 -- the kinds are listed, and the destination and the report of so many bytes of elements fit
 pub record CallFits (source : List ℕ) (from to : ℕ) (work d : List ℕ) : Type 0 where
-  pub from-listed : from < 10
-  pub to-listed : to < 10
+  pub from-listed : from < 11
+  pub to-listed : to < 11
   pub source-fits : length source ≤ 8186
   pub work-fits : 65488 ≤ length work
   pub report-fits : 139180 ≤ length d

@@ -1,7 +1,6 @@
 -- A float matches a key exactly where the patterns are equal, both are NaNs, or both are zeros: for any format.
-use mathlib.Core.Path.{_≡_, refl, sym, ap, ap₂, subst, _∙_}
+use mathlib.Core.Path.{_≡_, refl, sym, ap, ap₂, _∙_}
 use mathlib.Core.Bool.{Bool, true, false, Bool·beq}
-use mathlib.Core.Logic.{inl, inr}
 use Prim.Native.Nat.{ℕ, zero, suc, _+_, _-_, _*_, _%_, _^_, _≤_, _<_}
 use native.Mathlib.Nat.{mul-pos, mod-eq-of-lt, mod-eq-sub-mod}
 use native.Mathlib.Omega.{arith}
@@ -19,6 +18,7 @@ use Rattle.patterns.proofs.Encode.{zero-bits, bits-mono}
 use Rattle.patterns.proofs.Floats.{abs-signed, same-bits}
 use Rattle.kinds.specs.Row.{floatOf, FloatRow}
 use Rattle.kinds.specs.declared.FloatFormat.{FloatFormat}
+use Rattle.kinds.proofs.FloatRows.{by-row}
 use Rattle.cast_spec.specs.Element.{matches}
 use Rattle.mapping.specs.Map.{FloatPatterns}
 use Rattle.mapping.proofs.Equal.{equal-numbers, false-if-absurd}
@@ -159,8 +159,7 @@ abbrev Sizes : FloatFormat → Type 0
 Sizes f = (2 ≤ f .precision) × (0 < f .«exponent_bits») × (f .«exponent_bits» + f .precision ≤ 64)
 
 row-sizes : (f : FloatFormat) → FloatRow f → Sizes f
-row-sizes f (inl e) = subst Sizes (sym e) (lit≤ tt, lit< tt, lit≤ tt)
-row-sizes f (inr e) = subst Sizes (sym e) (lit≤ tt, lit< tt, lit≤ tt)
+row-sizes = by-row Sizes (lit≤ tt, lit< tt, lit≤ tt) (lit≤ tt, lit< tt, lit≤ tt) (lit≤ tt, lit< tt, lit≤ tt)
 
 pub row-patterns : (f : FloatFormat) (a key : ℕ) → FloatRow f → a < 2 ^ bits (floatOf f) → key < 2 ^ bits (floatOf f) → FloatPatterns a key (f .precision) (f .«exponent_bits»)
 row-patterns f a key row fits key-fits = let z = row-sizes f row in record { two = z .0; positive = z .1; at-most-64 = z .2; fits = fits; key-fits = key-fits }

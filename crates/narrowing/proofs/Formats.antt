@@ -1,11 +1,10 @@
 -- The top of a NaN's fraction, worked out by shifts.
 use mathlib.Core.Path.{_≡_, sym, ap, ap₂, _∙_}
 use Prim.Native.Nat.{ℕ, _+_, _-_, _*_, _/_, _%_, _^_, _<_}
-use native.Mathlib.Nat.{mod-eq-of-lt, mod-lt, mul-div-mul-right}
+use native.Mathlib.Nat.{mod-eq-of-lt, mul-div-mul-right}
 use native.Mathlib.Omega.{arith}
 use lib.Bits.{bitAnd, and-mask}
 use lib.Pow.{pow-add, pow-pos}
-use Rattle.grid.proofs.Neighbours.{pow-twice-pred}
 use Rattle.patterns.specs.Pattern.{quiet}
 use Rattle.patterns.proofs.Shifts.{one-shifted}
 
@@ -24,9 +23,3 @@ module _ (p t : ℕ) (two : 1 < p) (few : p < 53) (small : t < 2 ^ 52) where
 
   pub quiet-shifted : 1 * 2 ^ (p - 2) % 2 ^ 64 + bitAnd (t / 2 ^ (53 - p)) (1 * 2 ^ (p - 2) % 2 ^ 64 - 1) ≡ quiet 53 p t
   quiet-shifted = ap₂ _+_ (one-shifted (p - 2) (omega arith)) (masked ∙ ap (λ (z : ℕ). z % 2 ^ (p - 2)) (sym (top-of p t (omega arith) few small)))
-
-pub quiet-lt : (p t : ℕ) → 1 < p → quiet 53 p t < 2 ^ (p - 1)
-quiet-lt p t two = omega (arith, mod-lt (t % 2 ^ 52 * 2 ^ (p - 1) / 2 ^ 52) (pow-pos (p - 2)), pow-twice-pred (p - 1) (omega arith), ap (λ (z : ℕ). 2 ^ z) (less p two))
-  where
-    less : (p : ℕ) → 1 < p → p - 1 - 1 ≡ p - 2
-    less p two = omega arith

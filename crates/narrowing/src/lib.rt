@@ -2,7 +2,7 @@
 ghost use mathlib.Core.Path.{_≡_};
 ghost use Prim.Native.Nat.{_*_, _^_, _<_};
 ghost use Rattle.patterns.specs.Float.{infBits};
-ghost use Rattle.patterns.specs.Kind.{binary, f32};
+ghost use Rattle.patterns.specs.Kind.{binary, f16, f32};
 ghost use Rattle.patterns.specs.Pattern.{quiet};
 ghost use Rattle.floats.specs.Form.{Canonical, CanonicalClass};
 ghost use Rattle.narrowing.specs.Format.{Narrower, FormatBits, Rebiasable, narrowed, rebiased};
@@ -106,6 +106,14 @@ fn narrow(x: Float, p: u32, w: u32, s: u64, mode: RoundingMode, range: OutOfRang
     }
 }
 
+// A float rounded to f16.
+pub fn narrow_f16(x: Float, mode: RoundingMode, range: OutOfRangeMode) -> Fit
+    requires { ⌜ CanonicalClass (x .class) ⌝ }
+    ensures { λ r. ⌜ r ≡ fitFloat f16 mode range x ⌝ }
+{
+    narrow(x, 11, 5, 1050, mode, range)
+}
+
 // A float rounded to f32.
 pub fn narrow_f32(x: Float, mode: RoundingMode, range: OutOfRangeMode) -> Fit
     requires { ⌜ CanonicalClass (x .class) ⌝ }
@@ -126,6 +134,14 @@ fn rebias(bits: u64, p: u32, s: u64) -> u64
     let drop = 53 - p;
     let base = s - (drop as u64);
     (bits - (base << 52)) >> drop
+}
+
+// An integer that was rounded to f16's precision, has the bits below its sign in f64 and lies where `ternary` says, as an f16.
+pub fn rebias_f16(bits: u64, ternary: Ternary, negative: bool, range: OutOfRangeMode) -> Fit
+    requires { ⌜ Rebiasable 11 1050 bits ⌝ }
+    ensures { λ r. ⌜ r ≡ fitBits 11 5 negative range (rebiased 11 1050 bits) ternary ⌝ }
+{
+    fit_bits(rebias(bits, 11, 1050), ternary, negative, 11, 5, range)
 }
 
 // An integer that was rounded to f32's precision, has the bits below its sign in f64 and lies where `ternary` says, as an f32.

@@ -1,4 +1,4 @@
-// The next number of f32 and f64 up and down.
+// The next number of f16, f32 and f64 up and down.
 ghost use mathlib.Core.Path.{_≡_};
 ghost use Prim.Native.Nat.{_+_, _-_, _<_};
 ghost use lib.Bits.{bitAnd};
@@ -37,6 +37,13 @@ pub fn next_up_f32(b: u32) -> u32
     next_up(b as u64, 0x7f80_0000, 0x8000_0000) as u32
 }
 
+// The next f16 above b's number.
+pub fn next_up_f16(b: u16) -> u16
+    ensures { λ r. ⌜ r ≡ nextUp 11 5 b ⌝ }
+{
+    next_up(b as u64, 0x7c00, 0x8000) as u16
+}
+
 // The next f64 below b's number: the next above of the other sign, with the sign turned back.
 pub fn next_down_f64(b: u64) -> u64
     ensures { λ r. ⌜ r ≡ nextDown 53 11 b ⌝ }
@@ -49,4 +56,11 @@ pub fn next_down_f32(b: u32) -> u32
     ensures { λ r. ⌜ r ≡ nextDown 24 8 b ⌝ }
 {
     next_up_f32(b ^ 0x8000_0000) ^ 0x8000_0000
+}
+
+// The next f16 below b's number: the next above of the other sign, with the sign turned back.
+pub fn next_down_f16(b: u16) -> u16
+    ensures { λ r. ⌜ r ≡ nextDown 11 5 b ⌝ }
+{
+    next_up_f16(b ^ 0x8000) ^ 0x8000
 }

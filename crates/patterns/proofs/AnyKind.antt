@@ -122,6 +122,13 @@ pub largest-bits : (p w s : ℕ) (y : ℤ) → InRange (binary p w s) y → natA
 unfolding lowest highest
 largest-bits p w s y h = abs-le (bitsMag p s (infBits p w - 1)) y (h .0) (h .1)
 
+pub abs-in-range : (p w s : ℕ) (y : ℤ) → natAbs y ≤ bitsMag p s (infBits p w - 1) → InRange (binary p w s) y
+unfolding lowest highest
+abs-in-range p w s y h = between (bitsMag p s (infBits p w - 1)) h
+  where
+    between : (M : ℕ) → natAbs y ≤ M → (negℤ (pos M) ≤ℤ y) × (y ≤ℤ pos M)
+    between M h = (omega (ints, abs-is y, up-neg (pos M), dn-neg (pos M)), omega (ints, abs-is y))
+
 pub pattern-back : (k : Kind) (neg : Bool) (y : ℤ) → WellFormed k → OnGrid (gridOf k) y → InRange k y → y ≡ signed neg (natAbs y) → valueOf k (patternOf k neg y) ≡ num y
 unfolding patternOf
 pattern-back (integer s n) neg y ok on h e = int-back s n neg y ok on h

@@ -7,3 +7,4 @@ pub mod Ieee
 pub mod AnyKind
 pub mod IeeeBits
 pub mod Overrun
+pub mod Quiet

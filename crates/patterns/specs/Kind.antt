@@ -12,7 +12,10 @@ pub data Kind : Type 0 where
   integer : Bool → ℕ → Kind
   binary : ℕ → ℕ → ℕ → Kind
 
--- "p and s are 24 and -149 for f32, 53 and -1074 for f64"
+-- "p and s are 24 and -149 for f32, 53 and -1074 for f64"; f16 "has 11 significant bits, MAX 65504 and smallest spacing 2^-24"
+abbrev pub f16 : Kind
+f16 = binary 11 5 1050
+
 abbrev pub f32 : Kind
 f32 = binary 24 8 925
 

@@ -37,7 +37,8 @@ abbrev pub quiet : ℕ → ℕ → ℕ → ℕ
 quiet p p′ b = 2 ^ (p′ - 2) + b % 2 ^ (p - 1) * 2 ^ (p′ - 1) / 2 ^ (p - 1) % 2 ^ (p′ - 2)
 
 -- "same kind, bits unchanged; f64 to f32, sign kept, top 23 fraction bits kept, highest fraction bit set; f32 to f64, sign kept,
--- fraction placed at the top, highest fraction bit set". An integer kind has no NaN.
+-- fraction placed at the top, highest fraction bit set"; "a NaN from f64 or f32 keeps its sign and its top ten fraction bits, with the highest set; from f16
+-- to f32 or f64 the fraction goes to the top, likewise". An integer kind has no NaN.
 unfoldable pub nanPattern : Kind → ℕ → ℕ → ℕ → ℕ
 nanPattern (integer s n) p′ w′ b = 0
 nanPattern (binary p w s) p′ w′ b = cond (eqb p p′) b (withSign (w′ + p′) (negative (binary p w s) b) (infBits p′ w′ + quiet p p′ b))

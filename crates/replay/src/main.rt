@@ -1,4 +1,4 @@
-// Replays the list of the original's answers: converts each case of the file data/list and says in how many the answer or the destination
+// Replays the list of answers that are due, the original's and with f16 those of exact integers: converts each case of the file data/list and says in how many the answer or the destination
 // differs. tools/compare --list writes the file; tools/driver/src/list.rs says how a case stands in it.
 ghost use mathlib.Core.Path.{_≡_};
 ghost use Prim.Native.Nat.{_+_, _<_, _≤_};
@@ -73,7 +73,7 @@ fn same_elements(kind: u8, w: usize, a: &[u8], b: &[u8]) -> bool {
 
 // The bytes of an element of a kind; 1 for a code that is not listed.
 fn width(kind: u8) -> usize {
-    if kind < 10 {
+    if kind < 11 {
         return kinds::row_of(kind).bytes;
     }
     1

@@ -1,16 +1,16 @@
 -- The route of two rows of the table: it has their rows, and its kinds are theirs.
-use mathlib.Core.Path.{_≡_, refl, sym, ap, _∙_}
+use mathlib.Core.Path.{_≡_, refl, ap}
 use mathlib.Core.Bool.{Bool, true, false, cond, _&&_, Bool·beq}
-use mathlib.Core.Logic.{⊎-elim}
-use Prim.Native.Nat.{ℕ}
+use Prim.Native.Nat.{ℕ, _<_}
 use native.Mathlib.Omega.{arith}
-use lib.Dec.{eqb}
+use lib.Dec.{eqb, lit<}
 use borrow.Author.Tests.{eqb-true, eqb-false}
 use Rattle.patterns.specs.Kind.{integer}
-use Rattle.kinds.specs.Row.{floatOf, floatFormat, kindIn, FloatRow, FormatRow}
+use Rattle.kinds.specs.Row.{floatOf, kindIn, FloatRow, FormatRow}
 use Rattle.kinds.specs.declared.FloatFormat.{FloatFormat}
 use Rattle.kinds.specs.declared.Format.{Format}
 use Rattle.kinds.specs.declared.Format.the-variants.{Integer, Float}
+use Rattle.kinds.proofs.FloatRows.{by-row, half, single, double}
 use Rattle.routes.specs.Route.{RouteRow, routeOf, sourceOf, targetOf}
 use Rattle.routes.specs.declared.Route.the-variants.{Same, IntToInt, FloatToFloat}
 
@@ -57,16 +57,10 @@ same-integers s t m n = go (eqb m n) refl s t
     go false e s t h = no h
 
 same-floats : (f t : FloatFormat) → FloatRow f → FloatRow t → f .precision ≡ t .precision → f ≡ t
-same-floats f t a b h = ⊎-elim (λ i. ⊎-elim (λ j. i ∙ sym j) (λ j. absurd (differ i j)) b) (λ i. ⊎-elim (λ j. absurd (differ′ i j)) (λ j. i ∙ sym j) b) a
+same-floats f t a b h = by-row (λ (x : FloatFormat). f .precision ≡ x .precision → f ≡ x) (half f a) (single f a) (λ e. double f a (λ z. absurd (differ e z (lit< tt))) (λ z. absurd (differ e z (lit< tt)))) t b h
   where
-    precision : {g : FloatFormat} (x : FloatFormat) → g ≡ x → g .precision ≡ x .precision
-    precision x e = ap (λ (z : FloatFormat). z .precision) e
-
-    differ : f ≡ floatFormat 24 8 925 → t ≡ floatFormat 53 11 0 → ⊥
-    differ i j = let z : _≡_ {A = ℕ} 24 53 = sym (precision (floatFormat 24 8 925) i) ∙ h ∙ precision (floatFormat 53 11 0) j in omega arith
-
-    differ′ : f ≡ floatFormat 53 11 0 → t ≡ floatFormat 24 8 925 → ⊥
-    differ′ i j = let z : _≡_ {A = ℕ} 53 24 = sym (precision (floatFormat 53 11 0) i) ∙ h ∙ precision (floatFormat 24 8 925) j in omega arith
+    differ : {m n : ℕ} → m ≡ 53 → m ≡ n → n < 53 → ⊥
+    differ e z l = omega arith
 
 pub target-kind : (s t : Format) → FormatRow s → FormatRow t → targetOf (routeOf s t) ≡ kindIn t
 target-kind (Integer f) (Integer t) a b = go (eqb (f .bits) (t .bits) && Bool·beq (f .signed) (t .signed)) refl

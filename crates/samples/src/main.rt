@@ -1,4 +1,4 @@
-// The fourteen samples, wrap with a float target, a chunk of two elements and one of four under clamp and wrap, as bytes through the chunk call: each line is the answer's number,
+// The fourteen samples, wrap with a float target, half precision, a chunk of two elements and one of four under clamp and wrap, as bytes through the chunk call: each line is the answer's number,
 // the position of a refusal, the destination's bytes, which began as aa, and the counts mapped, exact, rounded, clamped and wrapped.
 ghost use mathlib.Core.Path.{_≡_};
 ghost use Prim.Native.Nat.{_≤_, _+_};
@@ -123,6 +123,50 @@ fn to_floats() {
     sample(0x00000000000000ff, 1, 8, 4, 9, 0, 2);
 }
 
+fn to_halves() {
+    // 65519 u16 to f16: 65504; 65520: 7, clamp +infinity
+    sample(0xffef, 2, 2, 5, 10, 0, 0);
+    sample(0xfff0, 2, 2, 5, 10, 0, 0);
+    sample(0xfff0, 2, 2, 5, 10, 0, 1);
+    // towards-zero: 65535 u16 is MAX, and 65536 u32 is past it
+    sample(0xffff, 2, 2, 5, 10, 1, 0);
+    sample(0x10000, 4, 2, 6, 10, 1, 0);
+    // f64 1 + 2^-11 + 2^-40, and 65520 - 2^-20: one rounding
+    sample(0x3ff0020000001000, 8, 2, 9, 10, 0, 0);
+    sample(0x40effdfffffe0000, 8, 2, 9, 10, 0, 0);
+    // 2^-25: nearest-even +0, nearest-away 2^-24
+    sample(0x3e60000000000000, 8, 2, 9, 10, 0, 0);
+    sample(0x3e60000000000000, 8, 2, 9, 10, 4, 0);
+    // halfway below and above the largest subnormal
+    sample(0x3f0ff40000000000, 8, 2, 9, 10, 0, 0);
+    sample(0x3f0ffc0000000000, 8, 2, 9, 10, 0, 0);
+    // wrap to f16: 8
+    sample(0x3ff0000000000000, 8, 2, 9, 10, 0, 2);
+}
+
+fn halves() {
+    // NaNs: from f64 and f32, to f64 and f32, to f16, and refused
+    sample(0xfff0040000000001, 8, 2, 9, 10, 0, 0);
+    sample(0xff802001, 4, 2, 8, 10, 0, 0);
+    sample(0xfc01, 2, 8, 10, 9, 0, 0);
+    sample(0xfc01, 2, 4, 10, 8, 0, 0);
+    sample(0xfc01, 2, 2, 10, 10, 0, 0);
+    sample(0xfc01, 2, 1, 10, 4, 0, 0);
+    // the largest subnormal to f64, and MAX to u16
+    sample(0x03ff, 2, 8, 10, 9, 0, 0);
+    sample(0x7bff, 2, 2, 10, 5, 0, 0);
+}
+
+// Map +0 to 7, -0 to 8: f16 -0 gives 7.
+fn half_keys() {
+    let keys = [0, 0, 0, 128];
+    let targets = [7, 8];
+    let s = [0, 128];
+    let mut d = [0xaau8; 1];
+    let r = chunk::convert(&s, &mut d, &keys, &targets, 10, 4, 0, 0);
+    print_reply(r, &d);
+}
+
 // The eight bytes of x, at a place of d.
 fn put(d: &mut [u8], at: usize, x: u64)
     requires { ⌜ at + 8 ≤ length (now d) ⌝ }
@@ -169,7 +213,10 @@ fn classes(range: u8) {
 fn main() {
     to_integers();
     to_floats();
+    to_halves();
+    halves();
     mapped();
+    half_keys();
     two();
     classes(1);
     classes(2);

@@ -30,7 +30,7 @@ use Rattle.narrowing.proofs.Fits.{in-range-stored}
 use Rattle.cast_spec.specs.Fit.{unmapped}
 
 -- a number of the target's grid and range is stored as it is
-exactly : (k : Kind) → WellFormed k → (mode : RoundingMode) (range : OutOfRangeMode) (v : ℕ) (neg : Bool) (x : ℤ) → OnGrid (gridOf k) x → InRange k x → ranged k range v neg x (pick (gridOf k) mode x) ≡ Stored (patternOf k neg x) Exact
+pub exactly : (k : Kind) → WellFormed k → (mode : RoundingMode) (range : OutOfRangeMode) (v : ℕ) (neg : Bool) (x : ℤ) → OnGrid (gridOf k) x → InRange k x → ranged k range v neg x (pick (gridOf k) mode x) ≡ Stored (patternOf k neg x) Exact
 exactly k ok mode range v neg x on h = ap (ranged k range v neg x) (pick-own (gridOf k) (sound k ok) mode x on) ∙ in-range-stored k range v neg x x h ∙ ap (λ (t : Ternary). Stored (patternOf k neg x) (byPick t)) (exact-is x x refl)
 
 own-nan : (p w s b : ℕ) → nanPattern (binary p w s) p w b ≡ b

@@ -54,8 +54,8 @@ settings from to es rounding range = record { from = kindOf from; to = kindOf to
 pub record Elements (X Y Z : Type 0) : Type 0 where
   pub from : ℕ
   pub to : ℕ
-  pub from-listed : from < 10
-  pub to-listed : to < 10
+  pub from-listed : from < 11
+  pub to-listed : to < 11
   pub source-bits : X → ℕ
   pub target-bits : Y → ℕ
   pub target-of : ℕ → Y
@@ -130,7 +130,7 @@ module _ {X Y Z : Type 0} (P : Elements X Y Z) (xs : List X) (ys : List Z) (roun
     targets-whole = whole (length es) _ w (width-pos to (P .to-listed)) (length-bytes w (map (λ (e : Entry). e .target) es) ∙ ap (λ (z : ℕ). z * w) (length-map es (λ (e : Entry). e .target)))
 
     codes-are : codesListed I ≡ ltb rounding 5 && ltb range 3
-    codes-are = simp (lt-ltb from 10 (P .from-listed), lt-ltb to 10 (P .to-listed))
+    codes-are = simp (lt-ltb from 11 (P .from-listed), lt-ltb to 11 (P .to-listed))
 
     pub map-is-whole : mapWhole I ≡ true
     map-is-whole = simp (eq-eqb _ _ (keys-whole .1), eq-eqb _ _ (targets-whole .1), eq-eqb _ _ (keys-whole .0 ∙ sym (targets-whole .0)))

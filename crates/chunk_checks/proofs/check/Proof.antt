@@ -42,7 +42,7 @@ codes-listed c = listed (c .before .before)
 wrap-permitted : (c : tie.Else2) → wrapPermitted (of c) ≡ true
 wrap-permitted c = ap not (sym (c .before .wrap-barred .ensures) ∙ c .if2 .left)
 
-codes : (c : tie.Else2) → (at c .args .from < 10) × (at c .args .to < 10)
+codes : (c : tie.Else2) → (at c .args .from < 11) × (at c .args .to < 11)
 codes c = let a = at c .args in listed-kinds (a .from) (a .to) (a .rounding) (a .range) (codes-listed c)
 
 abbrev settings : tie.After-settings-of → Settings

@@ -1,13 +1,11 @@
 -- `floats::read_f32` meets its contract: each arm has the form of its fields.
-use mathlib.Core.Path.{_≡_, ap, _∙_}
-use Prim.Native.Nat.{ℕ, _+_, _-_, _*_, _%_, _^_}
+use mathlib.Core.Path.{_∙_}
 use native.Mathlib.Omega.{arith}
-use lib.Bits.{bitAnd, and-mask, mask-lt}
+use lib.Bits.{mask-lt}
 use lib.Dec.{lit<, lit≤}
 use borrow.Author.Needs.{needs}
 use Rattle.floats.proofs.Fields.{fraction-small, fraction-is}
-use Rattle.floats.proofs.Forms.{subnormal-form, normal-form, special-form, quiet-fraction}
-use Rattle.patterns.specs.Pattern.{quiet}
+use Rattle.floats.proofs.Forms.{subnormal-form, normal-form, special-form, quiet-fraction, top-fraction}
 use Rattle.floats.proofs.read_f32.Statement.{statement}
 use Rattle.floats.proofs.read_f32.Tie as tie
 
@@ -19,10 +17,6 @@ add-finite c = let q = c .before .before .parts-f32 in record { fits = omega (ar
 
 add-infinite-or-nan : tie.Need-add-infinite-or-nan
 add-infinite-or-nan c = let q = c .before .before .parts-f32 in record { fits = omega (arith, mask-lt (q .result .fraction) 22) }
-
--- "fraction placed at the top, highest fraction bit set"
-nan-fraction : (b t : ℕ) → t ≡ b % 2 ^ 23 → 2 ^ 51 + bitAnd t (2 ^ 22 - 1) * 2 ^ 29 % 2 ^ 64 ≡ quiet 24 53 b
-nan-fraction b t e = ap (λ (z : ℕ). 2 ^ 51 + z * 2 ^ 29 % 2 ^ 64) (and-mask t 22 ∙ ap (λ (z : ℕ). z % 2 ^ 22) e) ∙ omega arith
 
 returns : tie.Need-returns
 returns c =
@@ -38,7 +32,7 @@ returns-3 : tie.Need-returns-3
 returns-3 c =
     let q = c .before .before .before .parts-f32 in
     let b = c .before .before .before .before .args .b in
-    c .infinite-or-nan .ensures ∙ special-form 24 8 925 _ (lit≤ tt) (lit< tt) (q .ensures) _ (omega arith) (nan-fraction b (q .result .fraction) (fraction-is 24 8 _ (q .ensures)) ∙ quiet-fraction 24 8 925 b (λ e. omega arith))
+    c .infinite-or-nan .ensures ∙ special-form 24 8 925 _ (lit≤ tt) (lit< tt) (q .ensures) _ (omega arith) (top-fraction 24 b (q .result .fraction) (lit≤ tt) (lit< tt) (fraction-is 24 8 _ (q .ensures)) ∙ quiet-fraction 24 8 925 b (λ e. omega arith))
 
 pub read-f32-spec : {M : Type 1} → statement M
 read-f32-spec = tie.close (tie.spec (λ c κs. search needs) normalize-requires (λ c κs. search needs) add-finite (λ c. search needs) (λ c κs. search needs) add-infinite-or-nan (λ c κs. search needs) returns returns-2 returns-3)

@@ -1,4 +1,4 @@
--- `kinds::row_of` meets its contract: the table is the rule's ten rows, which antt computes at once.
+-- `kinds::row_of` meets its contract: the table is the rule's eleven rows, which antt computes at once.
 use mathlib.Core.Path.{refl}
 use Prim.Native.Nat.{ℕ}
 use lib.Ieee.{size}
@@ -19,7 +19,7 @@ rule code = rowOf (kindOf code)
 
 returns : tie.Need-returns
 unfolding formatOf valueOf patternOf pick bitsMag size
-returns c = row rule 10 _ _ refl (c .before .args .code) (c .before .pre)
+returns c = row rule 11 _ _ refl (c .before .args .code) (c .before .pre)
 
 pub row-of-spec : {M : Type 1} → statement M
 row-of-spec = tie.close (tie.spec (λ c. search needs) (λ c. search needs) returns)

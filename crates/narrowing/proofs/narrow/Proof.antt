@@ -7,12 +7,12 @@ use borrow.Author.Needs.{needs}
 use Rattle.grid.specs.declared.Rounded.{Rounded}
 use Rattle.patterns.specs.Pattern.{withSign}
 use Rattle.patterns.proofs.Floats.{inf-lt, nan-lt}
+use Rattle.patterns.proofs.Quiet.{quiet-lt}
 use Rattle.counts.specs.declared.Fared.the-variants.{Exact}
 use Rattle.answers.specs.declared.Fit.the-variants.{Pattern}
 use Rattle.floats.specs.Form.{CanonicalClass}
 use Rattle.floats.specs.declared.Class.the-variants.{NotANumber}
 use Rattle.floats.proofs.Signs.{signed-sum, signed-fits}
-use Rattle.narrowing.proofs.Formats.{quiet-lt}
 use Rattle.narrowing.proofs.Fits.{number-fit, finite-fit, infinite-fit, nan-fit}
 use Rattle.narrowing.proofs.narrow.Statement.{statement}
 use Rattle.narrowing.proofs.narrow.Tie as tie
@@ -52,7 +52,7 @@ nan-under c =
     let t = i .before .before .before in
     let a = t .args in
     let f = t .pre .2 in
-    omega (arith, nan-lt (a .p) (a .w) 0 (f .two) (f .positive) (c .quiet-fraction .result) (subst (λ (z : ℕ). z < 2 ^ (a .p - 1)) (sym (c .quiet-fraction .ensures)) (quiet-lt (a .p) _ (f .two))), i .infinity-bits .ensures)
+    omega (arith, nan-lt (a .p) (a .w) 0 (f .two) (f .positive) (c .quiet-fraction .result) (subst (λ (z : ℕ). z < 2 ^ (a .p - 1)) (sym (c .quiet-fraction .ensures)) (quiet-lt 53 (a .p) _ (f .two))), i .infinity-bits .ensures)
 
 add-t19 : tie.Need-add-t19
 add-t19 c =

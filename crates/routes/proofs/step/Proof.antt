@@ -122,7 +122,7 @@ returns-6 c =
     let x = c .before .read-float2 in
     c .step-float-to-float .ensures
     ∙ ap (λ (z : Float). foundFit (a .found) (fitFloat (floatOf (k .0 .1 .0)) (a .mode) (a .range) z)) (x .ensures)
-    ∙ ap (foundFit (a .found)) (other-precision (a .b) f (record { row = row .0; fits = subst (SourcePattern (a .b)) (k .1) (t .pre .1) }) (a .mode) (a .range) (k .0 .1 .0) (row .1) (row .2))
+    ∙ ap (foundFit (a .found)) (other-precision (a .b) (a .mode) (a .range) f (record { row = row .0; fits = subst (SourcePattern (a .b)) (k .1) (t .pre .1) }) (k .0 .1 .0) (row .1) (row .2))
     ∙ ap (λ (r : Route). stepped (a .found) (sourceOf r) (targetOf r) (a .mode) (a .range) (a .b)) (sym (k .1))
 
 pub step-spec : {M : Type 1} → statement M
