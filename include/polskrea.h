@@ -1,5 +1,5 @@
 /*
- * polskrea: chunks of numbers cast between ten number kinds.
+ * polskrea: chunks of numbers cast between eleven number kinds.
  *
  * Link target/staticlib/libpolskrea.a, which `rt staticlib polskrea` makes (x86-64 Linux; it needs no other library, calls nothing, keeps
  * no state, allocates nothing, and may be called from several threads at once).
@@ -17,7 +17,8 @@
 extern "C" {
 #endif
 
-/* Kind codes. An element has 1, 2, 4 or 8 bytes, lowest byte first; integers are two's complement, floats are IEEE 754 binary32 and binary64. */
+/* Kind codes. An element has 1, 2, 4 or 8 bytes, lowest byte first; integers are two's complement, floats are IEEE 754 binary16, binary32 and
+ * binary64. An f16 has 11 significant bits, MAX 65504 and smallest spacing 2^-24; its element is its 16-bit pattern, a uint16_t in C. */
 #define POLSKREA_I8 0
 #define POLSKREA_I16 1
 #define POLSKREA_I32 2
@@ -28,6 +29,7 @@ extern "C" {
 #define POLSKREA_U64 7
 #define POLSKREA_F32 8
 #define POLSKREA_F64 9
+#define POLSKREA_F16 10
 
 /* Rounding codes. */
 #define POLSKREA_NEAREST_EVEN 0
@@ -38,7 +40,8 @@ extern "C" {
 
 /* Range codes: what becomes of an element whose rounded value lies past the target's finite range.
  * NONE refuses it. CLAMP gives the nearer end of an integer kind, and the infinity of its sign in a float kind.
- * WRAP gives the number of an integer kind that is congruent to it modulo 2^bits; with a float target it is barred, whatever the elements. */
+ * WRAP gives the number of an integer kind that is congruent to it modulo 2^bits; with a float target, f16, f32 or f64, it is barred, whatever
+ * the elements. */
 #define POLSKREA_NONE 0
 #define POLSKREA_CLAMP 1
 #define POLSKREA_WRAP 2
@@ -51,7 +54,7 @@ extern "C" {
 #define POLSKREA_LENGTH_MISMATCH 4   /* the element counts of source and destination differ */
 #define POLSKREA_NAN_OR_INF 5        /* a NaN or an infinity that no map entry matches goes to an integer kind, whatever the range code */
 #define POLSKREA_OUT_OF_RANGE 6      /* the rounded value is outside an integer target, range code 0 */
-#define POLSKREA_FLOAT_OUT_OF_RANGE 7 /* the rounded value is past a float target's finite range, range code 0 */
+#define POLSKREA_FLOAT_OUT_OF_RANGE 7 /* the rounded value of a float, or of an integer to f16, is past a float target's finite range, range code 0 */
 #define POLSKREA_BARRED_WRAP 8       /* range code 2 with a float target, whatever the lengths, the map and the elements: an empty chunk too */
 
 /* What a call answers beside its number. Every call writes every field, 0 where the field does not apply. The first six go with the numbers that
@@ -61,8 +64,8 @@ typedef struct polskrea_answer {
     uint64_t dst_len;  /* 4: the elements of the destination */
     uint64_t position; /* 5, 6, 7: of the refused element, in elements from 0 */
     uint64_t value;    /* 5, 6, 7: the refused element, unrounded, as the bits of a double: an integer by nearest-even, a NaN by the rule below */
-    uint64_t lowest;   /* 6: the target's lowest number, as the bits of an int64_t; 7: -MAX, as the bits of a double */
-    uint64_t highest;  /* 6: the target's highest number; 7: MAX, as the bits of a double */
+    uint64_t lowest;   /* 6: the target's lowest number, as the bits of an int64_t; 7: -MAX, as the bits of a double: f16's is 0xc0effc0000000000 */
+    uint64_t highest;  /* 6: the target's highest number; 7: MAX, as the bits of a double: f16's is 0x40effc0000000000 */
     uint64_t mapped;   /* a key equals the element, whatever the target */
     uint64_t exact;    /* no key does, and the rounded value equals the element as a number; or a NaN or an infinity goes to a float kind */
     uint64_t rounded;  /* no key does, and the rounded value is another number, within the target's finite range */
@@ -76,8 +79,10 @@ typedef struct polskrea_answer {
  * Each element: if it equals a key of the map, the target of the first such entry is stored as it is, unrounded and unchecked. A NaN key
  * equals every NaN, and +0 and -0 are equal. Otherwise the element is rounded once to the target kind by the rounding code, and then the
  * range code decides. A zero result keeps the sign of a float element; infinities pass from float to float.
- * NaN to a float kind: same kind, bits unchanged; f64 to f32, sign kept, top 23 fraction bits kept, highest fraction bit
- * set; f32 to f64, sign kept, fraction placed at the top, highest fraction bit set.
+ * An integer may overrun f16 alone among the float kinds: with no range choice, 65519 gives 65504 by nearest-even and 65520 is refused by 7;
+ * clamped it is the infinity of its sign, and counts as clamped.
+ * NaN to a float kind: same kind, bits unchanged; to a narrower kind, sign kept, top fraction bits kept, 23 of them in f32 and 10 in f16,
+ * highest fraction bit set; to a wider kind, sign kept, fraction placed at the top, highest fraction bit set.
  *
  * `src`, `dst`, `keys` and `targets` each come with their length in BYTES. Keys are elements of the kind `from`, targets of the kind `to`;
  * entry i is key i and target i. With no map both lengths are 0.

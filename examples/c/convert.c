@@ -1,5 +1,5 @@
-/* Converts 2.5 and 300 from f64 to u8, first with no range choice and then clamped, and by the typed calls, and prints each answer; and previews what
-   7 and 300 from i16 to u8 would change. */
+/* Converts 2.5 and 300 from f64 to u8, first with no range choice and then clamped, and by the typed calls, and prints each answer; previews what
+   7 and 300 from i16 to u8 would change; and converts to f16 and back. */
 #include <inttypes.h>
 #include <stdio.h>
 #include <string.h>
@@ -125,6 +125,37 @@ static void at_the_ends(void)
     show("empty, wrap to f32", number, &answer, NULL, 0);
 }
 
+/* Halves are their patterns, of two bytes: u16 65519 is rounded to 65504, f16's MAX, and 65520 overruns; an f64 just above the middle of 1 and
+   the next f16 is rounded once, to that next one; and back to f32. */
+static void to_f16(void)
+{
+    const uint16_t counts[2] = {65519, 65520};
+    const uint64_t above_the_middle = 0x3ff0020000001000;
+    polskrea_answer answer;
+    uint16_t halves[2] = {0xeeee, 0xeeee};
+    float single = 0.0f;
+    uint8_t number;
+
+    number = polskrea_convert((const uint8_t *)counts, sizeof counts, (uint8_t *)halves, sizeof halves, NULL, 0, NULL, 0,
+                              POLSKREA_U16, POLSKREA_F16, POLSKREA_NEAREST_EVEN, POLSKREA_NONE, &answer);
+    show("u16 to f16, none", number, &answer, (const uint8_t *)halves, sizeof halves);
+
+    number = polskrea_convert((const uint8_t *)counts, sizeof counts, (uint8_t *)halves, sizeof halves, NULL, 0, NULL, 0,
+                              POLSKREA_U16, POLSKREA_F16, POLSKREA_NEAREST_EVEN, POLSKREA_CLAMP, &answer);
+    show("u16 to f16, clamp", number, &answer, (const uint8_t *)halves, sizeof halves);
+
+    number = polskrea_convert((const uint8_t *)&above_the_middle, 8, (uint8_t *)halves, 2, NULL, 0, NULL, 0,
+                              POLSKREA_F64, POLSKREA_F16, POLSKREA_NEAREST_EVEN, POLSKREA_NONE, &answer);
+    show("f64 to f16", number, &answer, (const uint8_t *)halves, 2);
+
+    number = polskrea_convert((const uint8_t *)halves, 2, (uint8_t *)&single, 4, NULL, 0, NULL, 0,
+                              POLSKREA_F16, POLSKREA_F32, POLSKREA_NEAREST_EVEN, POLSKREA_NONE, &answer);
+    show("f16 to f32", number, &answer, (const uint8_t *)&single, 4);
+
+    number = polskrea_convert(NULL, 0, NULL, 0, NULL, 0, NULL, 0, POLSKREA_F64, POLSKREA_F16, POLSKREA_NEAREST_EVEN, POLSKREA_WRAP, &answer);
+    show("empty, wrap to f16", number, &answer, NULL, 0);
+}
+
 /* The typed calls, with typed maps. */
 static void by_numbers(void)
 {
@@ -180,6 +211,7 @@ int main(void)
     by_bytes();
     before_overwriting();
     at_the_ends();
+    to_f16();
     by_numbers();
     each_class();
     untouched_nan();

@@ -19,7 +19,7 @@
 /* Numbers, answers, destinations and figures of a group's calls, one after the other. */
 typedef struct {
     size_t len;
-    uint8_t bytes[1 << 20];
+    uint8_t bytes[1 << 21];
 } record;
 
 static record usual, now;
@@ -48,26 +48,34 @@ static void note_answer(uint8_t number, const polskrea_answer *a, size_t count)
     note(a, sizeof *a);
 }
 
-/* Odd magnitudes above 2^24 and above 2^53, where f32 and f64 round, and the ends. */
+/* Odd magnitudes above 2^11, above 2^24 and above 2^53, where f16, f32 and f64 round, halfway points and ends of f16, and the ends. */
 static const int64_t integers[] = {
     16777217, -16777217, 33554435, -50331651, 1099511627777, -1099511758849, 9007199254740993, -9007199254740993, 9007199254740995,
-    -18014398509481985, 4611686018427387905, 4611686293305294849, 9223371761976868863, INT64_MAX, -INT64_MAX, INT64_MIN, 1, -1, 255, -300};
+    -18014398509481985, 4611686018427387905, 4611686293305294849, 9223371761976868863, INT64_MAX, -INT64_MAX, INT64_MIN, 1, -1, 255, -300,
+    2049, -2051, 65519, 65520, -65520, -65535, 65536};
 
-/* Patterns of f64: zeros, halves, subnormals of f32 and of f64, halfway points and ends of f32, infinities, quiet NaNs. */
+/* Patterns of f64: zeros, halves, subnormals of f32 and of f64, halfway points and ends of f32 and of f16, subnormals of f16, infinities, quiet
+ * NaNs. */
 static const uint64_t doubles[] = {
     0x0000000000000000, 0x8000000000000000, 0x4004000000000000, 0xbfe0000000000000, 0x4072c00000000000, 0x3fb999999999999a, 0xbfb999999999999a,
     0x36a0000000000000, 0x3690000000000000, 0xb698000000000000, 0x380fffffe0000000, 0x380ffffff0000000, 0xb7f0000000000001, 0x0000000000000001,
     0x800fffffffffffff, 0x0010000000000000, 0x47efffffe0000000, 0x47effffff0000000, 0xc7efffffefffffff, 0x7e37e43c8800759c, 0x43e0000000000000,
+    0x3ff0020000000000, 0x3ff0020000001000, 0xbff0060000000000, 0xbff005ffffffffff, 0x40effc0000000000, 0x40effdffffffffff, 0x40effe0000000000,
+    0xc0efffffffffffff, 0x40f0000000000000, 0x3e60000000000000, 0xbe60000000000001, 0x3e78000000000000, 0xbf0ff80000000000, 0x3f0ffc0000000000,
     0x7ff0000000000000, 0xfff0000000000000, 0x7ff8000000000000, 0xfff8000000001234};
 
 /* Patterns of f32, likewise. */
 static const uint32_t floats[] = {0x00000000, 0x80000000, 0x40200000, 0xbf000000, 0x43960000, 0x00000001, 0x807fffff, 0x00800000,
-                                  0x7f7fffff, 0x7f800000, 0xff800000, 0x7fc00000, 0xffc01234};
+                                  0x7f7fffff, 0x3f801000, 0xbf801001, 0x477fe000, 0xc77ff000, 0x33000000, 0xb3000001, 0x387fc000,
+                                  0x7f800000, 0xff800000, 0x7fc00000, 0xffc01234};
+
+/* Patterns of f16: zeros, 2.5, a half, 300, subnormals, ends, infinities, quiet NaNs. */
+static const uint16_t halves[] = {0x0000, 0x8000, 0x4100, 0xb800, 0x5cb0, 0x0001, 0x83ff, 0x0400, 0x7bff, 0xfbff, 0x7c00, 0xfc00, 0x7e00, 0xfe34};
 
 /* One call of the byte route, and its preview. */
 static void by_bytes(const void *src, size_t len, uint8_t from, uint8_t to, uint8_t rounding, uint8_t range)
 {
-    static const size_t width[10] = {1, 2, 4, 8, 1, 2, 4, 8, 4, 8};
+    static const size_t width[11] = {1, 2, 4, 8, 1, 2, 4, 8, 4, 8, 2};
     uint8_t dst[512];
     polskrea_answer answer;
     uint64_t changed;
@@ -95,16 +103,21 @@ static void all_settings(const void *src, size_t count, size_t size, uint8_t fro
 static void byte_route(void)
 {
     static const uint64_t signalling = 0x7ff4000000000001;
-    for (uint8_t to = POLSKREA_F32; to <= POLSKREA_F64; to++) {
+    static const uint16_t signalling_half = 0x7d01;
+    for (uint8_t to = POLSKREA_F32; to <= POLSKREA_F16; to++) {
         all_settings(integers, COUNT(integers), 8, POLSKREA_I64, to);
         all_settings(integers, COUNT(integers), 8, POLSKREA_U64, to);
         all_settings(doubles, COUNT(doubles), 8, POLSKREA_F64, to);
         all_settings(floats, COUNT(floats), 4, POLSKREA_F32, to);
+        all_settings(halves, COUNT(halves), 2, POLSKREA_F16, to);
         all_settings(&signalling, 1, 8, POLSKREA_F64, to);
+        all_settings(&signalling_half, 1, 2, POLSKREA_F16, to);
     }
     all_settings(integers, COUNT(integers), 8, POLSKREA_I64, POLSKREA_U8);
     all_settings(doubles, COUNT(doubles), 8, POLSKREA_F64, POLSKREA_U8);
     all_settings(doubles, COUNT(doubles), 8, POLSKREA_F64, POLSKREA_I64);
+    all_settings(halves, COUNT(halves), 2, POLSKREA_F16, POLSKREA_U8);
+    all_settings(halves, COUNT(halves), 2, POLSKREA_F16, POLSKREA_I64);
 }
 
 static void integer_zero(void)
@@ -114,6 +127,7 @@ static void integer_zero(void)
     for (uint8_t from = POLSKREA_I8; from <= POLSKREA_U64; from++) {
         all_settings(&zero, 1, width[from], from, POLSKREA_F32);
         all_settings(&zero, 1, width[from], from, POLSKREA_F64);
+        all_settings(&zero, 1, width[from], from, POLSKREA_F16);
     }
 }
 

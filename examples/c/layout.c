@@ -7,6 +7,7 @@
 _Static_assert(CHAR_BIT == 8, "a byte has 8 bits");
 _Static_assert(sizeof(size_t) == 8 && SIZE_MAX == UINT64_MAX, "a length has 64 bits");
 _Static_assert(sizeof(void *) == 8, "a pointer has 64 bits");
+_Static_assert(sizeof(uint16_t) == 2 && _Alignof(uint16_t) == 2, "an f16 element is a pattern of 2 bytes");
 _Static_assert(sizeof(int32_t) == 4 && _Alignof(int32_t) == 4, "an i32 element has 4 bytes");
 _Static_assert(sizeof(int64_t) == 8 && _Alignof(int64_t) == 8, "an i64 element has 8 bytes");
 _Static_assert(INT64_MIN + 1 == -INT64_MAX && (uint64_t)INT64_MIN == UINT64_C(1) << 63, "integers are two's complement");

@@ -1,4 +1,4 @@
-//! A safe wrapper of `polskrea_convert` and of its preview: chunks of numbers cast between ten number kinds.
+//! A safe wrapper of `polskrea_convert` and of its preview: chunks of numbers cast between eleven number kinds.
 //!
 //! The library's side is proved (`crates/polskrea`, `crates/polskrea_preview`, `crates/polskrea_typed`); what this file has to keep is the
 //! caller's side of `include/polskrea.h`, and the borrow checker keeps it: what a call writes is `&mut`, so it overlaps nothing, and a slice's
@@ -71,7 +71,7 @@ typed!(convert_f32_to_u8, polskrea_convert_f32_to_u8, f32, u8);
 typed!(convert_f64_to_f32, polskrea_convert_f64_to_f32, f64, f32);
 typed!(convert_i64_to_f32, polskrea_convert_i64_to_f32, i64, f32);
 
-/// A number kind. Elements are bytes, lowest first.
+/// A number kind. Elements are bytes, lowest first; an f16, IEEE 754 binary16, is its 16-bit pattern.
 #[derive(Debug, Clone, Copy, PartialEq, Eq)]
 #[repr(u8)]
 #[allow(missing_docs)]
@@ -86,6 +86,7 @@ pub enum Kind {
     U64 = 7,
     F32 = 8,
     F64 = 9,
+    F16 = 10,
 }
 
 impl Kind {
@@ -93,7 +94,7 @@ impl Kind {
     pub fn bytes(self) -> usize {
         match self {
             Kind::I8 | Kind::U8 => 1,
-            Kind::I16 | Kind::U16 => 2,
+            Kind::I16 | Kind::U16 | Kind::F16 => 2,
             Kind::I32 | Kind::U32 | Kind::F32 => 4,
             Kind::I64 | Kind::U64 | Kind::F64 => 8,
         }
@@ -241,7 +242,7 @@ pub enum CastError {
         /// The target's highest number.
         hi: u64,
     },
-    /// 7: the rounded value is past a float target's finite range.
+    /// 7: the rounded value is past a float target's finite range; an integer's can be past that of f16 alone.
     FloatOutOfRange {
         /// From 0, in elements.
         position: u64,

@@ -83,6 +83,14 @@ fn exact_where_the_number_is_the_same() {
         assert_eq!(cast(&widened, Kind::F32, Kind::F64, rounding, range), Ok(counts([0, 4, 0, 0, 0])));
         let long = bytes!([1i64 << 24, -(1 << 62), (1 << 24) - 1]);
         assert_eq!(cast(&long, Kind::I64, Kind::F32, rounding, range), Ok(counts([0, 3, 0, 0, 0])));
+        let halves = bytes!([f64::NAN, -f64::INFINITY, -0.0, 65504.0, 2f64.powi(-24), 2048.0]);
+        assert_eq!(cast(&halves, Kind::F64, Kind::F16, rounding, range), Ok(counts([0, 6, 0, 0, 0])));
+        let patterns = bytes!([0x7c01u16, 0xfc00, 0x8000, 0x7bff, 1]);
+        for to in [Kind::F16, Kind::F32, Kind::F64] {
+            assert_eq!(cast(&patterns, Kind::F16, to, rounding, range), Ok(counts([0, 5, 0, 0, 0])));
+        }
+        let even = bytes!([2047i32, -65504, 65472]);
+        assert_eq!(cast(&even, Kind::I32, Kind::F16, rounding, range), Ok(counts([0, 3, 0, 0, 0])));
     }
 }
 
@@ -98,6 +106,9 @@ fn rounded_where_it_is_another() {
         for range in TO_FLOAT {
             assert_eq!(cast(&fine, Kind::F64, Kind::F32, rounding, range), Ok(counts([0, 1, 2, 0, 0])));
             assert_eq!(cast(&long, Kind::I64, Kind::F32, rounding, range), Ok(counts([0, 1, 3, 0, 0])));
+            assert_eq!(cast(&fine, Kind::F64, Kind::F16, rounding, range), Ok(counts([0, 1, 2, 0, 0])));
+            let odd = bytes!([2049i32, -4099, 2048]);
+            assert_eq!(cast(&odd, Kind::I32, Kind::F16, rounding, range), Ok(counts([0, 1, 2, 0, 0])));
         }
     }
 }
@@ -114,6 +125,15 @@ fn past_the_range_is_clamped_or_wrapped_alone() {
         cast(&overrun, Kind::F64, Kind::F32, TowardsZero, Clamp),
         Ok(counts([0, 1, 0, 3, 0]))
     );
+    let integers = bytes!([65520u16, 65519, 65535, 65504]);
+    assert_eq!(
+        cast(&integers, Kind::U16, Kind::F16, NearestEven, Clamp),
+        Ok(counts([0, 1, 1, 2, 0]))
+    );
+    assert_eq!(
+        cast(&integers, Kind::U16, Kind::F16, TowardsZero, Clamp),
+        Ok(counts([0, 1, 3, 0, 0]))
+    );
     let bytes = bytes!([255u8, 127]);
     assert_eq!(cast(&bytes, Kind::U8, Kind::I8, NearestEven, Clamp), Ok(counts([0, 1, 0, 1, 0])));
     assert_eq!(cast(&bytes, Kind::U8, Kind::I8, NearestEven, Wrap), Ok(counts([0, 1, 0, 0, 1])));
@@ -122,7 +142,12 @@ fn past_the_range_is_clamped_or_wrapped_alone() {
 /// One element mapped, one exact, one rounded, and then one that is refused, with one behind it.
 #[test]
 fn a_refusal_counts_what_stands_before_it() {
-    for (to, last, number) in [(Kind::U8, f64::NAN, 5), (Kind::U8, 300.0, 6), (Kind::F32, 1e300, 7)] {
+    for (to, last, number) in [
+        (Kind::U8, f64::NAN, 5),
+        (Kind::U8, 300.0, 6),
+        (Kind::F32, 1e300, 7),
+        (Kind::F16, 65520.0, 7),
+    ] {
         let key = bytes!([7.0f64]);
         let map = Map {
             keys: &key,
@@ -200,7 +225,7 @@ fn by_bytes_under(src: &[f64], dst_len: usize, keys_len: usize, from: u8, to: Ki
 fn every_field_is_written() {
     let none = answer([0; 6], [0; 5]);
     assert_eq!(by_bytes(&[1.0, 2.5], 2, 0, 9, Kind::U8), (0, answer([0; 6], [0, 1, 1, 0, 0])));
-    assert_eq!(by_bytes(&[1.0], 1, 0, 10, Kind::U8), (1, none));
+    assert_eq!(by_bytes(&[1.0], 1, 0, 11, Kind::U8), (1, none));
     assert_eq!(by_bytes(&[1.0], 1, 8, 9, Kind::U8), (2, none));
     assert_eq!(by_bytes(&[1.0], 3, 0, 9, Kind::I16), (3, none));
     assert_eq!(by_bytes(&[1.0, 2.5], 3, 0, 9, Kind::U8), (4, answer([2, 3, 0, 0, 0, 0], [0; 5])));
@@ -213,7 +238,9 @@ fn every_field_is_written() {
         (6, refused(300.0, [-128i64 as u64, 127]))
     );
     assert_eq!(by_bytes(&[1.0, 1e300], 8, 0, 9, Kind::F32), (7, refused(1e300, f32_ends())));
+    assert_eq!(by_bytes(&[1.0, 65520.0], 4, 0, 9, Kind::F16), (7, refused(65520.0, F16_ENDS)));
     assert_eq!(by_bytes_under(&[1.0, 1e300], 8, 0, 9, Kind::F32, Wrap), (8, none));
+    assert_eq!(by_bytes_under(&[1.0, 65520.0], 4, 0, 9, Kind::F16, Wrap), (8, none));
 }
 
 /// The fields where the second element is refused and the first is exact.
@@ -225,6 +252,9 @@ fn refused(value: f64, [lowest, highest]: [u64; 2]) -> sys::Answer {
 fn f32_ends() -> [u64; 2] {
     [f32::MIN, f32::MAX].map(|x| f64::from(x).to_bits())
 }
+
+/// -65504 and 65504, as bits of f64.
+const F16_ENDS: [u64; 2] = [0xc0ef_fc00_0000_0000, 0x40ef_fc00_0000_0000];
 
 /// The number and the fields of a typed call with no map, into so many places.
 macro_rules! by_numbers {

@@ -1,5 +1,6 @@
-//! The layout of the types that cross to C, as `include/polskrea.h` has it on x86-64.
+//! The layout of the types that cross to C, as `include/polskrea.h` has it on x86-64, and the kinds' codes and bytes.
 use polskrea::sys::{Answer, Entry};
+use polskrea::Kind;
 use std::mem::{align_of, offset_of, size_of};
 
 /// Size, alignment, and where key and target stand.
@@ -17,6 +18,15 @@ fn entries() {
     assert_eq!(layout!(f32, u8), (8, 4, 0, 4));
     assert_eq!(layout!(f64, f32), (16, 8, 0, 8));
     assert_eq!(layout!(i64, f32), (16, 8, 0, 8));
+}
+
+#[test]
+fn kinds() {
+    let integers = [Kind::I8, Kind::I16, Kind::I32, Kind::I64, Kind::U8, Kind::U16, Kind::U32, Kind::U64];
+    let all = integers.into_iter().chain([Kind::F32, Kind::F64, Kind::F16]);
+    for ((kind, code), bytes) in all.zip(0..).zip([1, 2, 4, 8, 1, 2, 4, 8, 4, 8, 2]) {
+        assert_eq!((kind as u8, kind.bytes()), (code, bytes), "{kind:?}");
+    }
 }
 
 #[test]

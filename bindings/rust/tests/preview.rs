@@ -2,7 +2,7 @@
 //! written, and as many bytes as then differ.
 use polskrea::{preview, preview_codes, sys, Kind, Map, OutOfRangeMode, RoundingMode};
 
-const KINDS: [Kind; 10] = [
+const KINDS: [Kind; 11] = [
     Kind::I8,
     Kind::I16,
     Kind::I32,
@@ -13,6 +13,7 @@ const KINDS: [Kind; 10] = [
     Kind::U64,
     Kind::F32,
     Kind::F64,
+    Kind::F16,
 ];
 
 /// What stands in the fields before a call, so that one that is not written shows.
@@ -130,6 +131,16 @@ fn as_converting_a_copy() {
 }
 
 #[test]
+fn a_bad_kind_code() {
+    for code in [11, 12, 255] {
+        for codes in [[code, 9, 0, 0], [9, code, 0, 0], [code, code, 0, 2]] {
+            assert_eq!(held(&[0; 16], &[1; 16], Map::default(), codes), 0);
+            assert_eq!(previewed(&[0; 16], &[1; 16], Map::default(), codes).0 .0, 1);
+        }
+    }
+}
+
+#[test]
 fn bytes_and_not_numbers_or_elements() {
     let ask =
         |src: &[u8], dst: &[u8], from, to| preview(src, dst, Map::default(), from, to, RoundingMode::NearestEven, OutOfRangeMode::None);
@@ -138,6 +149,11 @@ fn bytes_and_not_numbers_or_elements() {
     let (zero, minus_zero) = (0f64.to_le_bytes(), (-0f64).to_le_bytes());
     assert_eq!(ask(&zero, &minus_zero, Kind::F64, Kind::F64).changed, 1);
     assert_eq!(ask(&minus_zero, &zero, Kind::F64, Kind::F64).changed, 1);
+    // 1.0 over -1.0, and 65504 over 65472
+    assert_eq!(ask(&[0x00, 0x3c], &[0x00, 0xbc], Kind::F16, Kind::F16).changed, 1);
+    assert_eq!(ask(&[0xef, 0xff], &[0xfe, 0x7b], Kind::U16, Kind::F16).changed, 1);
+    let overrun = ask(&[1, 0, 0xf0, 0xff], &[0; 4], Kind::U16, Kind::F16);
+    assert_eq!((overrun.answer.unwrap_err().error.number(), overrun.changed), (7, 1));
     let refused = ask(&[7, 0, 44, 1], &[0, 0], Kind::I16, Kind::U8);
     assert_eq!(refused.answer.unwrap_err().error.number(), 6);
     assert_eq!(refused.changed, 1);

@@ -1,4 +1,4 @@
-//! Converts 2.5 and 300 from f64 to u8: refused, clamped, by a map, and by the typed call; and previews 7 and 300 from i16 to u8.
+//! Converts 2.5 and 300 from f64 to u8: refused, clamped, by a map, and by the typed call; previews 7 and 300 from i16 to u8; and converts to f16.
 use polskrea::{convert, convert_f64_to_u8, preview, Counts, Entry, Kind, Map, OutOfRangeMode, Preview, Refused, RoundingMode};
 
 /// Prints what came of a call and the destination, and how the converted elements fared.
@@ -48,6 +48,25 @@ fn before_overwriting() {
     ask("preview wrap again", &dst, OutOfRangeMode::Wrap);
 }
 
+/// Halves are their patterns, of two bytes: 65519 is rounded to 65504, the largest of them, 65520 overruns, and an f64 is rounded once.
+fn to_f16() {
+    let src: Vec<u8> = [65519u16, 65520].iter().flat_map(|x| x.to_le_bytes()).collect();
+    let mut dst = [0u8; 4];
+    let cast = |dst: &mut [u8], range| convert(&src, dst, Map::default(), Kind::U16, Kind::F16, RoundingMode::NearestEven, range);
+
+    let answer = cast(&mut dst, OutOfRangeMode::None);
+    show("f16 none", answer, &dst);
+
+    let answer = cast(&mut dst, OutOfRangeMode::Clamp);
+    show("f16 clamp", answer, &dst);
+
+    // just above the middle of 1 and the next f16
+    let src = (1.0 + 2f64.powi(-11) + 2f64.powi(-40)).to_le_bytes();
+    let (from, to, rounding) = (Kind::F64, Kind::F16, RoundingMode::NearestEven);
+    let answer = convert(&src, &mut dst[..2], Map::default(), from, to, rounding, OutOfRangeMode::None);
+    show("f64 to f16", answer, &dst[..2]);
+}
+
 /// The typed call, with no map and with a typed one.
 fn by_numbers() {
     let mut dst = [0u8; 2];
@@ -62,5 +81,6 @@ fn by_numbers() {
 fn main() {
     by_bytes();
     before_overwriting();
+    to_f16();
     by_numbers();
 }

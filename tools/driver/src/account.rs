@@ -39,7 +39,7 @@ pub fn classes(s: Settings, src: &[u8], keys: &[u8], out: &mut Vec<Class>) {
     macro_rules! from {
         ($($from:literal)*) => {
             match s.from {
-                $($from => to!($from, 0 1 2 3 4 5 6 7 8 9),)*
+                $($from => to!($from, 0 1 2 3 4 5 6 7 8 9 10),)*
                 _ => unreachable!("a listed kind"),
             }
         };
@@ -52,16 +52,12 @@ pub fn classes(s: Settings, src: &[u8], keys: &[u8], out: &mut Vec<Class>) {
             }
         };
     }
-    from!(0 1 2 3 4 5 6 7 8 9)
+    from!(0 1 2 3 4 5 6 7 8 9 10)
 }
 
 fn each<const FROM: u8, const TO: u8>(s: Settings, src: &[u8], keys: &[u8], out: &mut Vec<Class>) {
     let keys: Vec<u64> = keys.chunks_exact(width(FROM)).map(bits).collect();
-    let past = match s.range {
-        1 => Class::Clamped,
-        2 => Class::Wrapped,
-        _ => Class::Refused,
-    };
+    let past = past(s.range);
     out.clear();
     out.extend(src.chunks_exact(width(FROM)).map(|element| {
         let (from, to) = (Kind::of(FROM), Kind::of(TO));
@@ -74,9 +70,18 @@ fn each<const FROM: u8, const TO: u8>(s: Settings, src: &[u8], keys: &[u8], out:
     }));
 }
 
+/// The class of an element past the range.
+pub(crate) fn past(range: u8) -> Class {
+    match range {
+        1 => Class::Clamped,
+        2 => Class::Wrapped,
+        _ => Class::Refused,
+    }
+}
+
 /// An element's bits, lowest byte first.
 #[inline(always)]
-fn bits(element: &[u8]) -> u64 {
+pub(crate) fn bits(element: &[u8]) -> u64 {
     match *element {
         [a] => u64::from(a),
         [a, b] => u64::from(u16::from_le_bytes([a, b])),
@@ -107,16 +112,16 @@ fn unmatched(from: Kind, to: Kind, rounding: u8, past: Class, x: u64) -> Class {
 
 /// A finite number: its magnitude times 2^exponent, with its sign.
 #[derive(Clone, Copy)]
-struct Number {
-    negative: bool,
-    magnitude: u64,
-    exponent: i32,
+pub(crate) struct Number {
+    pub(crate) negative: bool,
+    pub(crate) magnitude: u64,
+    pub(crate) exponent: i32,
 }
 
 impl Number {
     /// The multiple of 2^unit that the rounding takes, and whether it is the number itself.
     #[inline(always)]
-    fn rounded(self, rounding: u8, unit: i32) -> (Number, bool) {
+    pub(crate) fn rounded(self, rounding: u8, unit: i32) -> (Number, bool) {
         if unit <= self.exponent {
             return (self, true);
         }
@@ -147,17 +152,18 @@ impl Number {
 
 /// A kind by what its numbers are.
 #[derive(Clone, Copy)]
-enum Kind {
+pub(crate) enum Kind {
     Integer { signed: bool, bits: u32 },
     Float { fraction: u32, field: u32 },
 }
 
 impl Kind {
     #[inline(always)]
-    fn of(code: u8) -> Kind {
+    pub(crate) fn of(code: u8) -> Kind {
         match code {
             8 => Kind::Float { fraction: 23, field: 8 },
             9 => Kind::Float { fraction: 52, field: 11 },
+            10 => Kind::Float { fraction: 10, field: 5 },
             _ => Kind::Integer {
                 signed: code < 4,
                 bits: 8 << (code % 4),
@@ -167,7 +173,7 @@ impl Kind {
 
     /// Whether a key matches an element: as numbers, and any NaN any NaN.
     #[inline(always)]
-    fn matches(self, key: u64, x: u64) -> bool {
+    pub(crate) fn matches(self, key: u64, x: u64) -> bool {
         let Kind::Float { fraction, field } = self else {
             return key == x;
         };
@@ -179,7 +185,7 @@ impl Kind {
 
     /// The number that bits stand for; none for a NaN or an infinity.
     #[inline(always)]
-    fn number(self, x: u64) -> Option<Number> {
+    pub(crate) fn number(self, x: u64) -> Option<Number> {
         match self {
             Kind::Integer { signed, bits } => {
                 let negative = signed && x >> (bits - 1) == 1;
@@ -210,7 +216,7 @@ impl Kind {
 
     /// The exponent of the smallest spacing.
     #[inline(always)]
-    fn least(self) -> i32 {
+    pub(crate) fn least(self) -> i32 {
         match self {
             Kind::Integer { .. } => 0,
             Kind::Float { fraction, field } => 2 - (1 << (field - 1)) - fraction as i32,
@@ -219,7 +225,7 @@ impl Kind {
 
     /// The exponent of the grid's spacing at a number.
     #[inline(always)]
-    fn unit(self, x: Number) -> i32 {
+    pub(crate) fn unit(self, x: Number) -> i32 {
         match self {
             Kind::Integer { .. } => 0,
             Kind::Float { fraction, .. } => self.least().max(x.top() - fraction as i32 - 1),
@@ -228,7 +234,7 @@ impl Kind {
 
     /// Whether a grid number lies past the finite range.
     #[inline(always)]
-    fn is_past(self, x: Number) -> bool {
+    pub(crate) fn is_past(self, x: Number) -> bool {
         match self {
             Kind::Integer { signed, bits } => {
                 let end = match (signed, x.negative) {
@@ -240,7 +246,7 @@ impl Kind {
                 // a whole magnitude times 2^exponent is above the end where it is above end / 2^exponent, cut off
                 end.checked_shr(x.exponent as u32).unwrap_or(0) < x.magnitude
             }
-            // at 2^128 or above, at 2^1024 or above
+            // at 2^16 or above, at 2^128 or above, at 2^1024 or above
             Kind::Float { field, .. } => 1 << (field - 1) < x.top(),
         }
     }

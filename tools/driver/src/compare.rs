@@ -1,8 +1,8 @@
 //! One chunk on both sides, what is counted, and the differences.
 use crate::account::{self, Class};
 use crate::{
-    barred, first_difference, has_typed, is_nan, lengths_differ, names_position, ours, ours_preview, ours_typed, pattern, put, reference,
-    slices, width, Answer, Reference, Settings,
+    barred, exact, first_difference, has_half, has_typed, ieee, is_nan, known, lengths_differ, names_position, ours, ours_preview,
+    ours_typed, pattern, put, reference, slices, width, Answer, Reference, Settings,
 };
 use polskrea::Counts;
 use std::collections::BTreeMap;
@@ -31,6 +31,10 @@ pub struct Tally {
     /// of the original's slice functions
     pub slices: u64,
     pub refusals: u64,
+    /// elements on which the original is known to differ from IEEE 754, and does as it is known to
+    pub known: u64,
+    /// elements that the processor's f16 conversion was asked for too
+    pub by_f16c: u64,
     pub differences: u64,
     pub smallest: BTreeMap<Settings, Difference>,
 }
@@ -43,6 +47,8 @@ impl Tally {
         self.typed += other.typed;
         self.slices += other.slices;
         self.refusals += other.refusals;
+        self.known += other.known;
+        self.by_f16c += other.by_f16c;
         self.differences += other.differences;
         for d in other.smallest.into_values() {
             self.keep(d);
@@ -51,9 +57,18 @@ impl Tally {
 
     /// The counts in words.
     pub fn text(&self) -> String {
+        let some = |n: u64, what: &str| if n == 0 { String::new() } else { format!("{n} {what}, ") };
         format!(
-            "{} elements, {} calls, {} previews, {} typed calls, {} slice calls, {} refusals, {} differences",
-            self.elements, self.calls, self.previews, self.typed, self.slices, self.refusals, self.differences
+            "{} elements, {} calls, {} previews, {} typed calls, {} slice calls, {} refusals, {}{}{} differences",
+            self.elements,
+            self.calls,
+            self.previews,
+            self.typed,
+            self.slices,
+            self.refusals,
+            some(self.by_f16c, "elements by the processor's f16 conversion too"),
+            some(self.known, "on which the original is known to differ from IEEE 754"),
+            self.differences
         )
     }
 
@@ -71,6 +86,7 @@ impl Tally {
         let size = match settings.from {
             8 => element & 0x7fff_ffff,
             9 => element & 0x7fff_ffff_ffff_ffff,
+            10 => element & 0x7fff,
             _ => element,
         };
         self.keep(Difference {
@@ -105,7 +121,7 @@ impl Route {
     }
 }
 
-/// What a chunk's elements come to by the original and by the account, and what they are.
+/// What a chunk's elements come to by the original, or by exact arithmetic, and by the account, and what they are.
 struct Chunk<'a> {
     s: Settings,
     src: &'a [u8],
@@ -125,6 +141,15 @@ impl Chunk<'_> {
         let w = width(self.s.from);
         self.src.get(at * w..at * w + w).map_or(0, pattern)
     }
+
+    /// Whose answers are expected.
+    fn whose(&self) -> &'static str {
+        if has_half(self.s) {
+            "exact arithmetic"
+        } else {
+            "the original"
+        }
+    }
 }
 
 /// What is due of a call.
@@ -139,6 +164,10 @@ struct Due<'a> {
 pub struct Check {
     pub tally: Tally,
     reference: Reference,
+    /// the original's answers, where those of exact arithmetic are expected
+    original: Reference,
+    /// what is due of the original, and what the processor makes of the elements
+    rows: [Vec<u8>; 2],
     /// of the account, one for each element
     classes: Vec<Class>,
     dst: Vec<u8>,
@@ -157,8 +186,17 @@ fn mark(kind: u8) -> u64 {
     match kind {
         8 => 0x7fa0_0001,
         9 => 0x7ff4_0000_0000_0001,
+        10 => 0x7d01,
         _ => 0xa5a5_a5a5_a5a5_a5a5,
     }
+}
+
+/// The position of the first elements of w bytes that differ in a bit.
+fn first_unlike(w: usize, a: &[u8], b: &[u8]) -> Option<usize> {
+    if a == b {
+        return None;
+    }
+    a.chunks_exact(w).zip(b.chunks_exact(w)).position(|(x, y)| x != y)
 }
 
 /// At how many places two rows of bytes differ. A run of 255 is counted in a byte, for speed.
@@ -206,7 +244,7 @@ impl Check {
         self.tally.calls += 1;
         self.tally.previews += 1;
         if told != due || written {
-            let element = if s.from < 10 {
+            let element = if s.from < 11 {
                 src.get(..width(s.from)).map_or(0, pattern)
             } else {
                 0
@@ -233,14 +271,13 @@ impl Check {
     }
 
     /// Compares a chunk of whole elements with a whole map, by the chunk call, by the typed call where there is one, and by the original's slice
-    /// function; and the counts with the account. The first call is handed the whole chunk, and each later one what stands behind a refused
-    /// element, to `look` elements from the next refused one on. So each element is compared, and the whole rest of every destination after
-    /// every refusal.
+    /// function; and the counts with the account. Where a kind is f16, exact arithmetic has the answers, and the original and the processor are
+    /// held to it too. The first call is handed the whole chunk, and each later one what stands behind a refused element, to `look` elements from
+    /// the next refused one on. So each element is compared, and the whole rest of every destination after every refusal.
     pub fn chunk(&mut self, s: Settings, src: &[u8], keys: &[u8], targets: &[u8], look: usize) {
         let mut expected = std::mem::take(&mut self.reference);
-        reference(s, src, keys, targets, &mut expected);
         let mut classes = std::mem::take(&mut self.classes);
-        account::classes(s, src, keys, &mut classes);
+        due(s, src, keys, targets, &mut expected, &mut classes);
         let c = Chunk {
             s,
             src,
@@ -254,7 +291,14 @@ impl Check {
             self.walk(&c, Route::Typed, look);
         }
         self.walk(&c, Route::Bytes, look);
-        self.slice(&c);
+        if has_half(s) {
+            self.by_original(&c);
+            self.by_processor(&c);
+        } else {
+            let dst = std::mem::take(&mut self.dst);
+            self.slice(&c, &dst);
+            self.dst = dst;
+        }
         self.tally.elements += c.count() as u64;
         self.tally.refusals += expected.refused.len() as u64;
         self.reference = expected;
@@ -269,6 +313,48 @@ impl Check {
                 self.tally.differs(c.s, c.element(at), text);
             }
         }
+    }
+
+    /// The original's element and slice functions on elements of which exact arithmetic says what is due.
+    fn by_original(&mut self, c: &Chunk) {
+        let (mut got, [mut want, other]) = (std::mem::take(&mut self.original), std::mem::take(&mut self.rows));
+        reference(c.s, c.src, c.keys, c.targets, &mut got);
+        want.clear();
+        want.extend_from_slice(&c.expected.stored);
+        self.tally.known += replace_known(c, &mut want);
+        if let Some(at) = first_difference(c.s.to, &got.stored, &want) {
+            let dw = width(c.s.to);
+            let [theirs, due] = [&got.stored, &want].map(|row| pattern(&row[at * dw..at * dw + dw]));
+            let text = format!("the original stores {theirs:#x} where {due:#x} is due of it");
+            self.tally.differs(c.s, c.element(at), text);
+        }
+        let (theirs, due) = (&got.refused, &c.expected.refused);
+        let unlike = theirs.iter().zip(due).position(|(a, b)| !a.same(b));
+        if let Some(i) = unlike.or((theirs.len() != due.len()).then(|| theirs.len().min(due.len()))) {
+            let show = |row: &[Answer]| row.get(i).map_or("nothing".into(), Answer::text);
+            let text = format!("the original refuses by {} where exact arithmetic has {}", show(theirs), show(due));
+            let at = theirs.get(i).or(due.get(i)).map_or(0, |a| a.position);
+            self.tally.differs(c.s, c.element(at as usize), text);
+        }
+        self.slice(c, &want);
+        self.original = got;
+        self.rows = [want, other];
+    }
+
+    /// The processor's conversion from f32 to f16 under clamp, in the rules that it has, with the bits of NaNs.
+    fn by_processor(&mut self, c: &Chunk) {
+        if (c.s.from, c.s.to, c.s.range) != (8, 10, 1) || 4 <= c.s.rounding || !c.keys.is_empty() || !ieee::has_f16c() {
+            return;
+        }
+        let mut row = std::mem::take(&mut self.rows[1]);
+        ieee::by_f16c(c.s.rounding, c.src, &mut row);
+        self.tally.by_f16c += c.count() as u64;
+        if let Some(at) = first_unlike(2, &row, &c.expected.stored) {
+            let [theirs, due] = [&row, &c.expected.stored].map(|row| pattern(&row[at * 2..at * 2 + 2]));
+            let text = format!("the processor has {theirs:#x} where exact arithmetic has {due:#x}");
+            self.tally.differs(c.s, c.element(at), text);
+        }
+        self.rows[1] = row;
     }
 
     /// The calls of one route on a chunk. Leaves what they stored in the destination.
@@ -298,7 +384,8 @@ impl Check {
             position: r.position - start as u64,
             ..*r
         });
-        if got.same(&want) {
+        // exact arithmetic has the bits of a NaN too
+        if got == want || !has_half(c.s) && got.same(&want) {
             return;
         }
         let end = refused.map_or(c.count(), |r| r.position as usize);
@@ -307,7 +394,7 @@ impl Check {
         } else {
             end
         };
-        let text = format!("{}: answer {} where the original has {}", route.name(), got.text(), want.text());
+        let text = format!("{}: answer {} where {} has {}", route.name(), got.text(), c.whose(), want.text());
         self.tally.differs(c.s, c.element(at), text);
     }
 
@@ -329,13 +416,19 @@ impl Check {
     fn stored(&mut self, c: &Chunk, route: Route, places: Range<usize>, dst: &[u8]) {
         let dw = width(c.s.to);
         let bytes = places.start * dw..places.end * dw;
-        let Some(i) = first_difference(c.s.to, &dst[bytes.clone()], &c.expected.stored[bytes]) else {
+        let (ours, due) = (&dst[bytes.clone()], &c.expected.stored[bytes]);
+        let unlike = if has_half(c.s) {
+            first_unlike(dw, ours, due)
+        } else {
+            first_difference(c.s.to, ours, due)
+        };
+        let Some(i) = unlike else {
             return;
         };
         let at = places.start + i;
         let show = |b: &[u8]| pattern(&b[at * dw..at * dw + dw]);
         let (got, want) = (show(dst), show(&c.expected.stored));
-        let text = format!("{}: stored {got:#x} where the original has {want:#x}", route.name());
+        let text = format!("{}: stored {got:#x} where {} has {want:#x}", route.name(), c.whose());
         self.tally.differs(c.s, c.element(at), text);
     }
 
@@ -355,12 +448,13 @@ impl Check {
         dst[bytes.clone()].copy_from_slice(&self.marks[bytes]);
     }
 
-    /// The original's slice function on the accepted elements, gathered into one slice, against what the chunk call stored for them.
-    fn slice(&mut self, c: &Chunk) {
+    /// The original's slice function on the accepted elements, gathered into one slice, against what is due of it: what the chunk call stored for
+    /// them, or exact arithmetic's.
+    fn slice(&mut self, c: &Chunk, row: &[u8]) {
         let [mut src, mut stored, mut dst] = std::mem::take(&mut self.accepted);
         let refused = &c.expected.refused;
         gather(&mut src, c.src, width(c.s.from), refused);
-        gather(&mut stored, &self.dst, width(c.s.to), refused);
+        gather(&mut stored, row, width(c.s.to), refused);
         dst.clear();
         dst.resize(stored.len(), 0);
         if !src.is_empty() {
@@ -436,13 +530,13 @@ impl Check {
             let text = format!("{}, {lengths:?} bytes: {text}", route.name());
             self.tally.differs(s, src.len() as u64, text);
         };
-        if !got.same(&due.answer) {
+        if got != due.answer && (has_half(s) || !got.same(&due.answer)) {
             differs(format!("answer {} where {} is due", got.text(), due.answer.text()));
         }
         if counts != due.counts {
             differs(format!("counts {counts} where {} are due", due.counts));
         }
-        let same = if s.to < 10 && due.after.len() % width(s.to) == 0 {
+        let same = if s.to < 10 && s.from != 10 && due.after.len() % width(s.to) == 0 {
             first_difference(s.to, &got_dst, due.after).is_none()
         } else {
             got_dst == due.after
@@ -528,7 +622,7 @@ pub fn checks(s: Settings, src: usize, dst: usize, keys: usize, targets: usize) 
             ..Answer::default()
         })
     };
-    if 10 <= s.from || 10 <= s.to || 5 <= s.rounding || 3 <= s.range {
+    if 11 <= s.from || 11 <= s.to || 5 <= s.rounding || 3 <= s.range {
         return plain(1);
     }
     if barred(s) {
@@ -547,14 +641,42 @@ pub fn checks(s: Settings, src: usize, dst: usize, keys: usize, targets: usize) 
     None
 }
 
-/// The answer and the destination of a call by the reference: the table, and then the element functions in order up to a refusal.
+/// Fills in what is due of each element, and its class: by the original, or by exact arithmetic where a kind is f16.
+pub fn due(s: Settings, src: &[u8], keys: &[u8], targets: &[u8], out: &mut Reference, classes: &mut Vec<Class>) {
+    if has_half(s) {
+        exact::reference(s, src, keys, targets, out, classes);
+    } else {
+        reference(s, src, keys, targets, out);
+        account::classes(s, src, keys, classes);
+    }
+}
+
+/// Puts what the original is known to store in the place of what IEEE 754 has. Returns at how many places.
+fn replace_known(c: &Chunk, row: &mut [u8]) -> u64 {
+    if (c.s.from, c.s.to) != (9, 10) {
+        return 0;
+    }
+    let mut places = 0;
+    for (i, place) in row.chunks_exact_mut(2).enumerate() {
+        if c.classes[i] == Class::Mapped {
+            continue;
+        }
+        if let Some(theirs) = known(c.s, c.element(i)) {
+            place.copy_from_slice(&(theirs as u16).to_le_bytes());
+            places += 1;
+        }
+    }
+    places
+}
+
+/// The answer and the destination of a call by the reference: the table, and then the elements in order up to a refusal.
 pub fn whole_call(s: Settings, src: &[u8], dst: &[u8], keys: &[u8], targets: &[u8]) -> (Answer, Vec<u8>) {
     let mut after = dst.to_vec();
     if let Some(a) = checks(s, src.len(), dst.len(), keys.len(), targets.len()) {
         return (a, after);
     }
     let mut r = Reference::default();
-    reference(s, src, keys, targets, &mut r);
+    due(s, src, keys, targets, &mut r, &mut Vec::new());
     let answer = r.refused.first().copied().unwrap_or_default();
     let end = if answer.number == 0 {
         after.len()

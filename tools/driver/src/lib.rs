@@ -1,8 +1,9 @@
 //! Both sides of the comparison. Ours: `ours`, the chunk call, `ours_preview`, its preview, and `ours_typed`, the typed calls. The original's:
-//! `reference`, its element functions applied in order, and `slices`, its slice functions. It has no counts: `account` has them.
+//! `reference`, its element functions applied in order, and `slices`, its slice functions. It has no counts: `account` has them. Where a kind is
+//! f16, what is due is that of `exact`.
 use original::{
     convert_float_to_float, convert_float_to_int, convert_int_to_float, convert_int_to_int, convert_slice_float_to_float,
-    convert_slice_float_to_int, convert_slice_int_to_float, convert_slice_int_to_int, CastError, CastFloat, CastInt, CastInto,
+    convert_slice_float_to_int, convert_slice_int_to_float, convert_slice_int_to_int, f16, CastError, CastFloat, CastInt, CastInto,
     FloatToFloatConfig, FloatToIntConfig, IntToFloatConfig, IntToIntConfig, MapEntry, OutOfRangeMode, RoundingMode,
 };
 use polskrea::{sys, Counts, Entry};
@@ -10,10 +11,11 @@ use std::ptr;
 
 pub mod account;
 pub mod compare;
+pub mod exact;
 pub mod ieee;
 pub mod samples;
 
-pub const KINDS: [&str; 10] = ["i8", "i16", "i32", "i64", "u8", "u16", "u32", "u64", "f32", "f64"];
+pub const KINDS: [&str; 11] = ["i8", "i16", "i32", "i64", "u8", "u16", "u32", "u64", "f32", "f64", "f16"];
 pub const RULES: [&str; 5] = [
     "nearest-even",
     "towards-zero",
@@ -25,7 +27,7 @@ pub const RANGES: [&str; 3] = ["none", "clamp", "wrap"];
 
 /// The bytes of an element of a listed kind.
 pub fn width(kind: u8) -> usize {
-    [1, 2, 4, 8, 1, 2, 4, 8, 4, 8][kind as usize]
+    [1, 2, 4, 8, 1, 2, 4, 8, 4, 8, 2][kind as usize]
 }
 
 pub fn is_float(kind: u8) -> bool {
@@ -63,16 +65,21 @@ pub fn barred(s: Settings) -> bool {
     s.range == 2 && is_float(s.to)
 }
 
-/// The settings that the original is consulted for: 1,400 of those that are listed.
+/// Whether f16 is one of the two kinds: exact arithmetic says what is due, and the original is held to it.
+pub fn has_half(s: Settings) -> bool {
+    s.from == 10 || s.to == 10
+}
+
+/// The settings that the original is consulted for: 1,650 of those that are listed.
 pub fn permitted_settings() -> Vec<Settings> {
     all_settings().into_iter().filter(|s| !barred(*s)).collect()
 }
 
-/// All settings that are listed, 10 x 10 x 5 x 3.
+/// All settings that are listed, 11 x 11 x 5 x 3.
 pub fn all_settings() -> Vec<Settings> {
     let mut all = Vec::new();
-    for from in 0..10 {
-        for to in 0..10 {
+    for from in 0..11 {
+        for to in 0..11 {
             for rounding in 0..5 {
                 for range in 0..3 {
                     all.push(Settings { from, to, rounding, range });
@@ -239,6 +246,19 @@ macro_rules! elements {
 }
 
 elements!(i8: 0, i16: 1, i32: 2, i64: 3, u8: 4, u16: 5, u32: 6, u64: 7, f32: 8, f64: 9);
+
+impl Element for f16 {
+    const CODE: u8 = 10;
+    const SIZE: usize = 2;
+    #[inline]
+    fn read(bytes: &[u8]) -> Self {
+        f16::from_bits(u16::read(bytes))
+    }
+    #[inline]
+    fn write(self, bytes: &mut [u8]) {
+        self.to_bits().write(bytes);
+    }
+}
 
 /// The C type of a typed call.
 type TypedCall<S, D> = unsafe extern "C" fn(*const S, usize, *mut D, usize, *const Entry<S, D>, usize, u8, u8, *mut sys::Answer) -> u8;
@@ -467,6 +487,7 @@ macro_rules! by_target {
             7 => $int::<$S, u64> $args,
             8 => $float::<$S, f32> $args,
             9 => $float::<$S, f64> $args,
+            10 => $float::<$S, f16> $args,
             _ => unreachable!("a listed kind"),
         }
     };
@@ -485,6 +506,7 @@ macro_rules! by_source {
             7 => by_target!(u64, $int_int, $int_float, $s, $args),
             8 => by_target!(f32, $float_int, $float_float, $s, $args),
             9 => by_target!(f64, $float_int, $float_float, $s, $args),
+            10 => by_target!(f16, $float_int, $float_float, $s, $args),
             _ => unreachable!("a listed kind"),
         }
     };
@@ -527,8 +549,20 @@ pub fn is_nan(kind: u8, pattern: u64) -> bool {
     match kind {
         8 => f32::from_bits(pattern as u32).is_nan(),
         9 => f64::from_bits(pattern).is_nan(),
+        10 => 0x7c00 < pattern & 0x7fff,
         _ => false,
     }
+}
+
+/// What the original is known to store of an f64 in f16 where IEEE 754 has another number: the crate behind it drops the lowest 32 bits, and so
+/// takes a number just above a halfway point for that point.
+pub fn known(s: Settings, x: u64) -> Option<u64> {
+    let finite = x & 0x7fff_ffff_ffff_ffff < 0x7ff0 << 48;
+    if (s.from, s.to) != (9, 10) || !matches!(s.rounding, 0 | 4) || !finite || x as u32 == 0 {
+        return None;
+    }
+    let theirs = exact::f64_to_f16(0, x & !0xffff_ffff);
+    (theirs != exact::f64_to_f16(s.rounding, x)).then_some(theirs)
 }
 
 /// Whether two runs of elements of a kind are the same, a NaN as a NaN; else the position of the first that differ.

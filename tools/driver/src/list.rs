@@ -1,7 +1,7 @@
-//! The fixed list: a sample of the reference's answers, for the program `replay`.
-use driver::compare::whole_call;
+//! The fixed list: a sample of the answers that are due, for the program `replay`: the original's, and with f16 those of exact integers.
+use driver::compare::{due, whole_call};
 use driver::samples::{edges, Random};
-use driver::{all_settings, barred, is_float, permitted_settings, reference, width, Answer, Reference, Settings};
+use driver::{all_settings, barred, is_float, permitted_settings, width, Answer, Reference, Settings, KINDS};
 
 /// A map and elements that often meet it.
 pub struct Sample {
@@ -39,6 +39,7 @@ fn special(kind: u8, r: &mut Random) -> u64 {
             (1 << 63) + 1,
             0x3ff0 << 48,
         ],
+        10 => &[0, 0x8000, 0x7c00, 0xfc00, 0x7e00, 0xfe00, 0x7c01, 0xffff, 1, 0x8001, 0x3c00],
         _ => &[0, 1, 2, 0x7f, 0x80, 0xff],
     };
     all[r.below(all.len() as u64) as usize]
@@ -117,13 +118,24 @@ fn telling(kind: u8) -> Vec<u64> {
     if !is_float(kind) {
         let n = width(kind) * 8;
         let mut all: Vec<u64> = Vec::new();
-        for k in [0, 7, 8, 15, 16, 24, 31, 32, 53, 63] {
+        for k in [0, 7, 8, 11, 15, 16, 24, 31, 32, 53, 63] {
             if k < n {
                 for x in [(1u64 << k) - 1, 1 << k, (1 << k) + 1] {
                     all.push(x);
                     all.push(0u64.wrapping_sub(x));
                 }
             }
+        }
+        if 16 <= n {
+            all.extend([
+                65503,
+                65504,
+                65519,
+                65520,
+                65521,
+                0u64.wrapping_sub(65519),
+                0u64.wrapping_sub(65520),
+            ]);
         }
         if n == 64 {
             for x in [
@@ -142,6 +154,9 @@ fn telling(kind: u8) -> Vec<u64> {
         all.dedup();
         return all;
     }
+    if kind == 10 {
+        return telling_halves();
+    }
     let mut all = Vec::new();
     let mut xs = vec![
         0.0, 0.25, 0.5, 0.75, 1.0, 1.5, 2.5, 3.5, 126.5, 127.5, 128.5, 254.5, 255.5, 256.0, 300.0, 32767.5, 65535.5,
@@ -158,6 +173,14 @@ fn telling(kind: u8) -> Vec<u64> {
         3.0 * 2f64.powi(-150),
         2f64.powi(-126),
         f64::INFINITY,
+    ]);
+    // f16's halfway points at 1, at its ends and among its smallest numbers
+    xs.extend([1.0 + 2f64.powi(-11), 1.0 + 3.0 * 2f64.powi(-11), 65504.0, 65519.0, 65520.0, 65536.0]);
+    xs.extend([
+        2f64.powi(-25),
+        3.0 * 2f64.powi(-25),
+        2045.0 * 2f64.powi(-25),
+        2047.0 * 2f64.powi(-25),
     ]);
     for x in xs {
         for y in [x, -x] {
@@ -188,19 +211,30 @@ fn telling(kind: u8) -> Vec<u64> {
             1,
             (1 << 63) | 1,
         ]);
+        // what is a tie of f16 once it is an f32
+        all.extend([0x3ff0_0200_0000_1000, 0x40ef_fdff_fffe_0000, 0xfff0_0400_0000_0001]);
         all.extend([0x7ff8 << 48, (0xfff0 << 48) | 1, (-200f64).exp2().to_bits() | 1 << 63]);
     }
     all
 }
 
+/// The same of f16: zeros, the smallest numbers, 1, halves, whole numbers about the ends of the small kinds, MAX, infinities and NaNs.
+fn telling_halves() -> Vec<u64> {
+    let positive = [
+        0, 1, 0x03ff, 0x0400, 0x3400, 0x3800, 0x3bff, 0x3c00, 0x3c01, 0x3e00, 0x4100, 0x4300, 0x57e8, 0x57f8, 0x5804, 0x5bf4, 0x5bfc,
+        0x5c00, 0x5cb0, 0x77ff, 0x7800, 0x7bff, 0x7c00, 0x7c01, 0x7e00, 0x7fff,
+    ];
+    positive.iter().flat_map(|x| [*x, x | 0x8000]).collect()
+}
+
 pub fn write(file: &str) {
     let mut out: Vec<u8> = Vec::new();
-    let edge: Vec<Vec<u64>> = (0..10).map(edges).collect();
+    let edge: Vec<Vec<u64>> = (0..KINDS.len() as u8).map(edges).collect();
     let mut r = Random(0x4000);
     for (i, s) in permitted_settings().into_iter().enumerate() {
         let patterns = telling(s.from);
         let mut reference_of = Reference::default();
-        reference(s, &bytes_of(s.from, &patterns), &[], &[], &mut reference_of);
+        due(s, &bytes_of(s.from, &patterns), &[], &[], &mut reference_of, &mut Vec::new());
         let refused: Vec<usize> = reference_of.refused.iter().map(|a| a.position as usize).collect();
         let (mut yes, mut no) = (Vec::new(), Vec::new());
         for (j, p) in patterns.iter().enumerate() {
@@ -240,8 +274,8 @@ pub fn write(file: &str) {
     // 4: broken lengths and bad codes
     let zeros = [0u8; 32];
     let mark = [0x77u8; 32];
-    for from in 0..10 {
-        for to in 0..10 {
+    for from in 0..KINDS.len() as u8 {
+        for to in 0..KINDS.len() as u8 {
             for (a, b, c, d) in [
                 (1, 1, 0, 0),
                 (7, 5, 3, 1),

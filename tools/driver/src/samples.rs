@@ -1,5 +1,5 @@
 //! Elements to compare on: every edge of a kind, and random ones that lean towards halfway points and ends.
-use crate::is_float;
+use crate::{exact, is_float};
 
 /// splitmix64
 pub struct Random(pub u64);
@@ -33,10 +33,10 @@ fn masked(kind: u8, pattern: u64) -> u64 {
 
 /// A float kind's fraction bits and exponent field's bits.
 fn format(kind: u8) -> (u32, u32) {
-    if kind == 8 {
-        (23, 8)
-    } else {
-        (52, 11)
+    match kind {
+        8 => (23, 8),
+        9 => (52, 11),
+        _ => (10, 5),
     }
 }
 
@@ -44,15 +44,60 @@ fn format(kind: u8) -> (u32, u32) {
 fn float_pattern(kind: u8, m: f64, e: i32) -> u64 {
     let (a, b) = (e / 2, e - e / 2);
     let x = m * 2f64.powi(a) * 2f64.powi(b);
-    if kind == 8 {
-        u64::from((x as f32).to_bits())
-    } else {
-        x.to_bits()
+    match kind {
+        8 => u64::from((x as f32).to_bits()),
+        9 => x.to_bits(),
+        _ => exact::f64_to_f16(0, x.to_bits()),
     }
 }
 
-/// Every edge value of a kind, as patterns, each once, smallest first.
+/// Every edge value of a kind, as patterns, each once, smallest first: those that its own format, f32 and f64 have, and what f16 adds to them.
 pub fn edges(kind: u8) -> Vec<u64> {
+    let mut out = own_edges(kind);
+    for x in if is_float(kind) { float_edges(kind) } else { integer_edges(kind) } {
+        for d in 0..5 {
+            let y = x.wrapping_add(d).wrapping_sub(2);
+            let negated = if is_float(kind) {
+                y ^ 1 << (bits_of(kind) - 1)
+            } else {
+                y.wrapping_neg()
+            };
+            out.extend([y, negated].map(|y| masked(kind, y)));
+        }
+    }
+    out.sort_unstable();
+    out.dedup();
+    out
+}
+
+/// What f16 tells of the floats of a kind: halfway points of its smallest numbers, its ends, and at each power of two a half and one and a half
+/// steps above and a half below.
+fn float_edges(kind: u8) -> Vec<u64> {
+    let of = |m: f64, e: i32| float_pattern(kind, m, e);
+    let mut out: Vec<u64> = (0..40).map(|k| of(f64::from(k), -25)).collect();
+    // its largest subnormal and its largest number, each with the halfway point and the power of two above it
+    for (e, largest) in [(-24, 1023.0), (5, 2047.0)] {
+        out.extend([largest, largest + 0.5, largest + 1.0].map(|m| of(m, e)));
+    }
+    for e in -26..18 {
+        out.extend([2049.0, 2051.0, 4095.0].map(|m| of(m, e - 11)));
+    }
+    out
+}
+
+/// The same of the integers of a kind: halfway points at 11 significant bits, with an even and an odd neighbour below, and what is just short of a
+/// carry; its largest number, and the halfway point above that.
+fn integer_edges(kind: u8) -> Vec<u64> {
+    let mut out = vec![65504, 65520];
+    for k in 11..bits_of(kind) {
+        let (top, unit) = (1u64 << k, 1u64 << (k - 10));
+        out.extend([top + unit / 2, top + unit + unit / 2, top.wrapping_mul(2).wrapping_sub(unit / 2)]);
+    }
+    out
+}
+
+/// The edge values that a kind's own format, f32 and f64 have.
+fn own_edges(kind: u8) -> Vec<u64> {
     let mut out = Vec::new();
     let n = bits_of(kind);
     if !is_float(kind) {
@@ -147,11 +192,11 @@ pub fn biased(kind: u8, r: &mut Random) -> u64 {
         if shape == 0 {
             return masked(kind, r.next());
         }
-        // of a random size: near a halfway point at 24 or at 53 bits, or near a power of two
+        // of a random size: near a halfway point at 11, at 24 or at 53 bits, or near a power of two
         let k = r.below(u64::from(n)) as u32;
         let top = 1u64 << k;
         let x = top | (r.next() & (top - 1));
-        let digits = if shape < 3 { 24 } else { 53 };
+        let digits = [11, 24, 53][r.below(3) as usize];
         let y = if 3 < shape || k < digits {
             (if shape == 4 { top } else { x }).wrapping_add(r.below(5)).wrapping_sub(2)
         } else {
@@ -181,8 +226,20 @@ pub fn biased(kind: u8, r: &mut Random) -> u64 {
         // near an end of an integer target
         3 => {
             let e = [7, 8, 15, 16, 31, 32, 63, 64][r.below(8) as usize];
-            let x = 2f64.powi(e) + (r.below(17) as f64 - 8.0) / 4.0;
+            // or of f16, 65504 and 65520
+            let below = if e == 16 { 16.0 * r.below(3) as f64 } else { 0.0 };
+            let x = 2f64.powi(e) - below + (r.below(17) as f64 - 8.0) / 4.0;
             let p = float_pattern(kind, x, 0);
+            near(p, r)
+        }
+        // halfway between two numbers of f16, and what is just above or below, from the lowest bit up
+        4 if r.below(2) == 0 && kind == 9 => {
+            let x = exact::halfway(r.below(0x7c00)) | sign;
+            let off = 1u64 << r.below(41);
+            [x, x + 1, x - 1, x + off, x - off][r.below(5) as usize]
+        }
+        4 if r.below(2) == 0 => {
+            let p = float_pattern(kind, f64::from_bits(exact::halfway(r.below(0x7c00))), 0);
             near(p, r)
         }
         // halfway between two numbers of f32, normal or subnormal
@@ -198,4 +255,18 @@ pub fn biased(kind: u8, r: &mut Random) -> u64 {
             near(e << fraction, r)
         }
     }
+}
+
+/// An f64 near f16's numbers: one in eight any, the others at a halfway point, the one above MAX among them, or off it by a power of two from the
+/// lowest bit up.
+pub fn near_halves(r: &mut Random) -> u64 {
+    let sign = r.below(2) << 63;
+    let middle = exact::halfway(match r.below(8) {
+        0 => return biased(9, r),
+        1 => r.below(0x400),
+        2 => 0x7bff - r.below(4),
+        _ => r.below(0x7c00),
+    });
+    let off = 1 << if r.below(2) == 0 { 0 } else { r.below(43) };
+    sign | [middle, middle + off, middle - off][r.below(3) as usize]
 }

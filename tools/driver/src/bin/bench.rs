@@ -5,8 +5,8 @@ use driver::{
     entries, ours, ours_preview, range_of, rounding_of, typed, typed_entries, width, Element, Settings, Typed, KINDS, RANGES, RULES,
 };
 use original::{
-    convert_slice_float_to_float, convert_slice_float_to_int, convert_slice_int_to_float, convert_slice_int_to_int, CastFloat, CastInt,
-    CastInto, FloatToFloatConfig, FloatToIntConfig, IntToFloatConfig, IntToIntConfig,
+    convert_slice_float_to_float, convert_slice_float_to_int, convert_slice_int_to_float, convert_slice_int_to_int, f16, CastFloat,
+    CastInt, CastInto, FloatToFloatConfig, FloatToIntConfig, IntToFloatConfig, IntToIntConfig,
 };
 use std::hint::black_box;
 use std::time::Instant;
@@ -211,6 +211,50 @@ fn rows(n: usize) -> Vec<(Row, Original)> {
             int_float::<i64, f32>,
         );
     }
+    for rounding in [0, 1, 4] {
+        add(
+            9,
+            10,
+            rounding,
+            0,
+            "-6e4 to 6e4",
+            fill(n, between(-6e4, 6e4)),
+            0,
+            float_float::<f64, f16>,
+        );
+    }
+    for rounding in [0, 1, 4] {
+        add(
+            8,
+            10,
+            rounding,
+            0,
+            "-6e4 to 6e4",
+            fill::<f32>(n, |r| (-6e4 + 12e4 * unit(r)) as f32),
+            0,
+            float_float::<f32, f16>,
+        );
+    }
+    add(
+        10,
+        8,
+        0,
+        0,
+        "any f16",
+        fill::<u16>(n, |r| r.next() as u16),
+        0,
+        float_float::<f16, f32>,
+    );
+    add(
+        5,
+        10,
+        0,
+        0,
+        "0 to 65519",
+        fill::<u16>(n, |r| r.below(65520) as u16),
+        0,
+        int_float::<u16, f16>,
+    );
     add(9, 3, 0, 2, "in range", fill(n, between(-1e18, 1e18)), 0, float_int::<f64, i64>);
     add(9, 3, 0, 2, "far out", fill(n, between(-1e25, 1e25)), 0, float_int::<f64, i64>);
     add(5, 0, 0, 1, "any u16", fill::<u16>(n, |r| r.next() as u16), 0, int_int::<u16, i8>);

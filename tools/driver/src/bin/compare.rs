@@ -1,8 +1,9 @@
-//! Compares the proved libraries with the original, section by section. `--quick` takes fewer elements; `--only A,B` takes some sections;
-//! `--step N` takes one run of patterns in N in the sweeps over 32-bit kinds; `--list FILE` writes the fixed list and compares nothing.
-use driver::compare::{Check, Tally};
-use driver::samples::{biased, edges, Random};
-use driver::{all_settings, barred, permitted_settings, put, reference, width, Reference, Settings, KINDS, RANGES, RULES};
+//! Compares the proved libraries with the original, and with f16 by exact integers, section by section. `--quick` takes fewer elements;
+//! `--only A,B` takes some sections; `--step N` takes one run of patterns in N in the sweeps over 32-bit kinds; `--list FILE` writes the
+//! fixed list and compares nothing.
+use driver::compare::{due, Check, Tally};
+use driver::samples::{biased, edges, near_halves, Random};
+use driver::{all_settings, barred, ieee, permitted_settings, put, width, Reference, Settings, KINDS, RANGES, RULES};
 use std::sync::atomic::{AtomicUsize, Ordering};
 use std::sync::Mutex;
 use std::time::Instant;
@@ -34,7 +35,7 @@ fn spread(n: usize, work: impl Fn(&mut Check, usize) + Sync, each: impl Fn(usize
     total.into_inner().unwrap()
 }
 
-const SECTIONS: [&str; 13] = [
+const SECTIONS: [&str; 15] = [
     "settings",
     "barred",
     "small",
@@ -48,6 +49,8 @@ const SECTIONS: [&str; 13] = [
     "f32-f64",
     "i32-f32",
     "u32-f32",
+    "f64-f16",
+    "f32-f16",
 ];
 
 struct Report {
@@ -79,7 +82,7 @@ fn bytes_of(kind: u8, patterns: &[u64]) -> Vec<u8> {
 /// The elements of a kind that a settings accepts, and those that it refuses.
 fn sorted(s: Settings, patterns: &[u64]) -> (Vec<u64>, Vec<u64>) {
     let mut r = Reference::default();
-    reference(s, &bytes_of(s.from, patterns), &[], &[], &mut r);
+    due(s, &bytes_of(s.from, patterns), &[], &[], &mut r, &mut Vec::new());
     let mut refused = r.refused.iter().map(|a| a.position as usize).peekable();
     let (mut yes, mut no) = (Vec::new(), Vec::new());
     for (i, p) in patterns.iter().enumerate() {
@@ -96,7 +99,7 @@ fn sorted(s: Settings, patterns: &[u64]) -> (Vec<u64>, Vec<u64>) {
 fn settings(report: &mut Report) {
     let since = Instant::now();
     let all = permitted_settings();
-    let edge: Vec<Vec<u64>> = (0..10).map(edges).collect();
+    let edge: Vec<Vec<u64>> = (0..11).map(edges).collect();
     let t = spread(
         all.len(),
         |check, i| {
@@ -126,7 +129,7 @@ fn settings(report: &mut Report) {
         |_| {},
     );
     report.section(
-        "1,400 settings on every edge of the source kind, refusals early, late and none",
+        "1,650 settings on every edge of the source kind, refusals early, late and none",
         since,
         t,
     );
@@ -136,7 +139,7 @@ fn settings(report: &mut Report) {
 fn barred_wrap(report: &mut Report) {
     let since = Instant::now();
     let all: Vec<Settings> = all_settings().into_iter().filter(|s| barred(*s)).collect();
-    let edge: Vec<Vec<u64>> = (0..10).map(edges).collect();
+    let edge: Vec<Vec<u64>> = (0..11).map(edges).collect();
     let t = spread(
         all.len(),
         |check, i| {
@@ -162,16 +165,13 @@ fn barred_wrap(report: &mut Report) {
         },
         |_| {},
     );
-    report.section("the 100 settings with wrap and a float target, by the papers' table", since, t);
+    report.section("the 165 settings with wrap and a float target, by the papers' table", since, t);
 }
 
-/// Every pattern of the 8- and 16-bit kinds, in every setting that the original is consulted for.
+/// Every pattern of the 8- and 16-bit kinds, f16 among them, in every setting that the original is consulted for.
 fn small_kinds(report: &mut Report) {
     let since = Instant::now();
-    let all: Vec<Settings> = permitted_settings()
-        .into_iter()
-        .filter(|s| matches!(s.from, 0 | 1 | 4 | 5))
-        .collect();
+    let all: Vec<Settings> = permitted_settings().into_iter().filter(|s| width(s.from) < 4).collect();
     let t = spread(
         all.len(),
         |check, i| {
@@ -182,7 +182,7 @@ fn small_kinds(report: &mut Report) {
         |_| {},
     );
     report.section(
-        "every pattern of i8, i16, u8 and u16 to every target, in every rule and range but wrap to a float",
+        "every pattern of i8, i16, u8, u16 and f16 to every target, in every rule and range but wrap to a float",
         since,
         t,
     );
@@ -191,10 +191,7 @@ fn small_kinds(report: &mut Report) {
 /// Random elements of the 32- and 64-bit kinds in every such setting, biased to halfway points and ends.
 fn random(report: &mut Report, wide: usize, narrow: usize) {
     let since = Instant::now();
-    let all: Vec<Settings> = permitted_settings()
-        .into_iter()
-        .filter(|s| !matches!(s.from, 0 | 1 | 4 | 5))
-        .collect();
+    let all: Vec<Settings> = permitted_settings().into_iter().filter(|s| 4 <= width(s.from)).collect();
     let t = spread(
         all.len(),
         |check, i| {
@@ -208,14 +205,18 @@ fn random(report: &mut Report, wide: usize, narrow: usize) {
         },
         |_| {},
     );
-    report.section("random elements of i32, i64, u32, u64, f32 and f64 in the 1,400 settings", since, t);
+    report.section(
+        "random elements of i32, i64, u32, u64, f32 and f64 to every target, in every rule and range but wrap to a float",
+        since,
+        t,
+    );
 }
 
 /// Maps with NaNs, zeros of both signs, infinities and duplicates, in every such setting.
 fn maps(report: &mut Report, rounds: usize) {
     let since = Instant::now();
     let all = permitted_settings();
-    let edge: Vec<Vec<u64>> = (0..10).map(edges).collect();
+    let edge: Vec<Vec<u64>> = (0..11).map(edges).collect();
     let t = spread(
         all.len(),
         |check, i| {
@@ -245,10 +246,10 @@ struct Aligned([u8; 64]);
 fn malformed(report: &mut Report, deep: bool) {
     let since = Instant::now();
     let t = spread(
-        100,
+        KINDS.len() * KINDS.len(),
         |check, i| {
             let mut r = Random(0x3000 + i as u64);
-            let (from, to) = ((i / 10) as u8, (i % 10) as u8);
+            let (from, to) = ((i / KINDS.len()) as u8, (i % KINDS.len()) as u8);
             let (Aligned(zeros), mark) = (Aligned([0; 64]), [0x77u8; 64]);
             let top = if deep { 18 } else { 9 };
             for src in 0..top {
@@ -333,9 +334,14 @@ fn sweep(report: &mut Report, from: u8, to: u8, range: u8, step: u64) {
     } else {
         format!("one run of 2^12 patterns in {step}")
     };
+    let by = match (to, ieee::has_f16c()) {
+        (10, true) => ", by exact integers, in four of them the processor's conversion too",
+        (10, false) => ", by exact integers; this processor has no conversion",
+        _ => "",
+    };
     report.section(
         &format!(
-            "{} to {}, {}: {what} in the five rules",
+            "{} to {}, {}: {what} in the five rules{by}",
             KINDS[from as usize], KINDS[to as usize], RANGES[range as usize]
         ),
         since,
@@ -347,10 +353,10 @@ fn sweep(report: &mut Report, from: u8, to: u8, range: u8, step: u64) {
 fn second_opinion(report: &mut Report, count: usize) {
     let since = Instant::now();
     let mut all = Vec::new();
-    for from in [2, 3, 6, 7, 8, 9] {
-        for to in 0..10 {
+    for from in [2, 3, 6, 7, 8, 9, 10] {
+        for to in 0..11 {
             for rounding in 0..5 {
-                if driver::ieee::has_opinion(from, to) {
+                if ieee::has_opinion(from, to) {
                     all.push(Settings {
                         from,
                         to,
@@ -361,7 +367,7 @@ fn second_opinion(report: &mut Report, count: usize) {
             }
         }
     }
-    let edge: Vec<Vec<u64>> = (0..10).map(edges).collect();
+    let edge: Vec<Vec<u64>> = (0..11).map(edges).collect();
     let t = spread(
         all.len(),
         |check, i| {
@@ -375,11 +381,46 @@ fn second_opinion(report: &mut Report, count: usize) {
         },
         |_| {},
     );
+    let halves = if ieee::has_f16() {
+        "f16 by the C compiler's _Float16"
+    } else {
+        "without f16, which the C compiler has not"
+    };
     report.section(
         &format!(
-            "IEEE 754, a second opinion: fesetround for {}, {}, {}, {}; exact integers for {}",
+            "IEEE 754, a second opinion: fesetround for {}, {}, {}, {}; exact integers for {}; {halves}",
             RULES[0], RULES[1], RULES[2], RULES[3], RULES[4]
         ),
+        since,
+        t,
+    );
+}
+
+/// f64 to f16 in the five rules, refused and clamped: at, just above and just below halfway points, in the subnormal range and at the end.
+fn halfway_to_f16(report: &mut Report, count: usize) {
+    const CHUNK: usize = 4096;
+    let since = Instant::now();
+    let t = spread(
+        count.div_ceil(CHUNK) * 10,
+        |check, i| {
+            let (from, to, rounding, range) = (9, 10, (i % 5) as u8, (i / 5 % 2) as u8);
+            let s = Settings { from, to, rounding, range };
+            let mut r = Random(0x6000 + i as u64);
+            let patterns: Vec<u64> = (0..CHUNK).map(|_| near_halves(&mut r)).collect();
+            check.chunk(s, &bytes_of(from, &patterns), &[], &[], 16);
+            if range == 1 && ieee::has_opinion(from, to) {
+                check.opinion(s, &patterns);
+            }
+        },
+        |_| {},
+    );
+    let too = if ieee::has_f16() {
+        "; clamped by the second opinion too"
+    } else {
+        ""
+    };
+    report.section(
+        &format!("f64 to f16, none and clamp, in the five rules: at, just above and just below halfway points, by exact integers{too}"),
         since,
         t,
     );
@@ -428,7 +469,9 @@ fn main() {
             "f32-i64" => sweep(&mut report, 8, 3, 0, step),
             "f32-f64" => sweep(&mut report, 8, 9, 0, step),
             "i32-f32" => sweep(&mut report, 2, 8, 0, step),
-            _ => sweep(&mut report, 6, 8, 0, step),
+            "u32-f32" => sweep(&mut report, 6, 8, 0, step),
+            "f64-f16" => halfway_to_f16(&mut report, if quick { 1 << 16 } else { 1 << 22 }),
+            _ => sweep(&mut report, 8, 10, 1, step),
         }
     }
     let t = &report.total;
