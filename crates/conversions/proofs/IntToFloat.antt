@@ -19,12 +19,9 @@ use Rattle.patterns.specs.Float.{infBits}
 use Rattle.patterns.specs.Pattern.{magBits, withSign}
 use Rattle.patterns.proofs.Floats.{mag-lt}
 use Rattle.counts.specs.Counts.{byPick}
-use Rattle.kinds.specs.Row.{FloatRow}
 use Rattle.counts.specs.declared.Fared.{Fared}
-use Rattle.kinds.specs.declared.FloatFormat.{FloatFormat}
 use Rattle.codes.specs.declared.OutOfRangeMode.{OutOfRangeMode}
 use Rattle.answers.specs.declared.Fit.the-variants.{Pattern}
-use Rattle.kinds.proofs.FloatRows.{by-row}
 use Rattle.floats.specs.Form.{CanonicalClass, scaledOf}
 use Rattle.floats.specs.declared.Class.the-variants.{Finite}
 use Rattle.floats.proofs.Values.{scaled-canonical}
@@ -37,10 +34,6 @@ use Rattle.narrowing.specs.Format.{Narrower, Rebiasable, rebiased}
 use Rattle.narrowing.proofs.Fits.{bits-fit, number-fit}
 use Rattle.narrowing.proofs.Magnitudes.{rebias-exact, rebiasable}
 use Rattle.conversions.specs.Fit.{fitInteger}
-
--- a row's precision is one that an integer is rounded to
-pub row-precision : (f : FloatFormat) → FloatRow f → Precision (f .precision)
-row-precision = by-row (λ (f : FloatFormat). Precision (f .precision)) (record { two = lit≤ tt; at-most-53 = lit≤ tt }) (record { two = lit≤ tt; at-most-53 = lit≤ tt }) (record { two = lit≤ tt; at-most-53 = lit≤ tt })
 
 module _ (x : Integer) (small : x .magnitude < 2 ^ 64) (mode : RoundingMode) (range : OutOfRangeMode) (rounded : Rounded) where
   abbrev r : RoundingMode

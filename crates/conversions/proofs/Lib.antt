@@ -1,3 +1,4 @@
+pub mod Rows
 pub mod Integers
 pub mod FloatToInt
 pub mod IntToFloat

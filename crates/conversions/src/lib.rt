@@ -4,6 +4,7 @@ ghost use Rattle.grid.specs.declared.RoundingMode.{RoundingMode};
 ghost use Rattle.kinds.specs.Row.{integerOf, floatOf, IntegerRow, FloatRow};
 ghost use Rattle.floats.specs.Form.{CanonicalClass};
 ghost use Rattle.narrowing.specs.Fit.{fitFloat};
+ghost use Rattle.narrowing.specs.Format.{Narrower, FormatBits};
 ghost use Rattle.conversions.specs.Fit.{fitInteger};
 use answers::Fit;
 use codes::OutOfRangeMode;
@@ -44,6 +45,14 @@ pub fn convert_int_to_int(x: Integer, to: IntegerFormat, range: OutOfRangeMode) 
     integer_range::apply_range(x.negative, x.magnitude, false, Ternary::Exact, to, range)
 }
 
+// A float to a float kind that is narrower than f64.
+fn float_to_narrower(x: Float, to: FloatFormat, mode: RoundingMode, range: OutOfRangeMode) -> Fit
+    requires { ⌜ CanonicalClass (x .class) × Narrower (to .precision) (to .spacing) × FormatBits (to .precision) (to .«exponent_bits») ⌝ }
+    ensures { λ r. ⌜ r ≡ fitFloat (floatOf to) mode range x ⌝ }
+{
+    narrowing::narrow(x, to.precision, to.exponent_bits, to.spacing, mode, range)
+}
+
 // A float to a float kind; to f64 it is exact.
 pub fn convert_float_to_float(
     x: Float,
@@ -56,12 +65,11 @@ pub fn convert_float_to_float(
 {
     let precision = to.precision;
     match precision {
-        11 => narrowing::narrow_f16(x, mode, range),
-        24 => narrowing::narrow_f32(x, mode, range),
-        _ => Fit::Pattern {
+        53 => Fit::Pattern {
             pattern: floats::write_f64(x),
             fared: Fared::Exact,
         },
+        _ => float_to_narrower(x, to, mode, range),
     }
 }
 
@@ -80,11 +88,18 @@ pub fn convert_int_to_float(
     let rounded = integers::int_to_f64_magnitude(x.magnitude, negative, precision, mode);
     let ternary = rounded.ternary;
     match precision {
-        11 => narrowing::rebias_f16(rounded.bits, ternary, negative, range),
-        24 => narrowing::rebias_f32(rounded.bits, ternary, negative, range),
-        _ => Fit::Pattern {
+        53 => Fit::Pattern {
             pattern: floats::sign_bit(negative, 63) + rounded.bits,
             fared: counts::by_pick(ternary),
         },
+        _ => narrowing::fit_rebiased(
+            rounded.bits,
+            ternary,
+            negative,
+            precision,
+            to.exponent_bits,
+            to.spacing,
+            range,
+        ),
     }
 }

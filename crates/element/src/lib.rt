@@ -4,12 +4,14 @@ ghost use Rattle.patterns.specs.Pattern.{asF64};
 ghost use Rattle.kinds.specs.Row.{floatOf, kindIn, FormatRow};
 ghost use Rattle.cast_spec.specs.Fit.{filled};
 ghost use Rattle.floats.specs.Form as form;
+ghost use Rattle.floats.specs.Widened.{widenedOf};
 ghost use Rattle.element.specs.Element.{FloatPattern, FormatPattern, elementOf, elementF64, CanonicalElement};
 ghost use Rattle.element.specs.Refusal.{RefusalOf};
 use answers::Answer;
 use answers::Fit;
 use answers::Outcome;
 use floats::Float;
+use floats::Widened;
 use integers::Integer;
 use kinds::FloatFormat;
 use kinds::Format;
@@ -22,16 +24,27 @@ pub enum Element {
 
 // ---- readers, and the value of a refusal
 
-// A float's pattern as an element.
+// The pattern of a float that is narrower than f64, by its fields as an f32's.
+fn widen(b: u64, format: FloatFormat) -> Widened
+    requires { ⌜ FloatPattern b format × (format .precision ≡ 53 → ⊥) ⌝ }
+    ensures { λ r. ⌜ r ≡ widenedOf (format .precision) (format .«exponent_bits») (format .spacing) b ⌝ }
+{
+    let precision = format.precision;
+    match precision {
+        11 => floats::widen_f16(b as u16),
+        _ => floats::widen_f32(b as u32),
+    }
+}
+
+// A float's pattern as an element. What follows the fields stands once for both narrower formats: so it is small enough that the compiler inlines it.
 pub fn read_float(b: u64, format: FloatFormat) -> Float
     requires { ⌜ FloatPattern b format ⌝ }
     ensures { λ r. ⌜ r ≡ form.floatOf (floatOf format) b ⌝ }
 {
     let precision = format.precision;
     match precision {
-        11 => floats::read_f16(b as u16),
-        24 => floats::read_f32(b as u32),
-        _ => floats::read_f64(b),
+        53 => floats::read_f64(b),
+        _ => floats::read_widened(widen(b, format)),
     }
 }
 

@@ -4,11 +4,10 @@ use mathlib.Core.Bool.{Bool, true, false}
 use Prim.Native.Nat.{ℕ, zero, suc, _+_, _-_, _*_, _/_, _%_, _^_, _≤_, _<_}
 use native.Mathlib.Nat.{add-comm, le-antisymm, le-of-eq, le-trans, lt-of-lt-of-le, mod-lt, mul-assoc, mul-div-cancel, mul-le-mul-right}
 use native.Mathlib.Omega.{arith}
-use lib.Bits.{bitAnd, and-mask}
 use lib.Dec.{lit<}
 use lib.Ieee.{size}
 use lib.Ieee.Digits.{size-le, size-lt}
-use lib.Pow.{pow-pos, pow-mono, pow-add, mod-mod-pow, shl-exact, shl-lt}
+use lib.Pow.{pow-pos, pow-mono, pow-add, shl-lt}
 use borrow.Author.Tests.{eq-eqb, ne-eqb}
 use Rattle.grid.specs.Round.{signed}
 use Rattle.grid.proofs.Neighbours.{cut, pow-twice-pred}
@@ -18,7 +17,6 @@ use Rattle.patterns.specs.Kind.{Kind, binary, f64}
 use Rattle.patterns.specs.Value.{Value, nan, inf, num, negative, valueOf}
 use Rattle.patterns.specs.Pattern.{nanPattern, quiet, withSign}
 use Rattle.patterns.proofs.Floats.{is-num, is-inf, is-nan, abs-signed}
-use Rattle.patterns.proofs.Quiet.{quiet-widened}
 use Rattle.floats.specs.Parts.{partsOf}
 use Rattle.floats.specs.Form.{scaledOf, classFor, floatOf, finiteFloat, infiniteOrNan}
 use Rattle.floats.specs.declared.Parts.{Parts}
@@ -112,16 +110,6 @@ module _ (p w s b : ℕ) (two : 2 ≤ p) (some : 0 < w) {q : Parts} (is : q ≡ 
       L = subst (λ (z : ℕ). 2 ^ w - 1 ≤ z) (exponent-is p w b is) l
 
 -- ---- a NaN's fraction in f64
-
--- "fraction placed at the top, highest fraction bit set": by a mask and a shift
-pub top-fraction : (p b t : ℕ) → 2 ≤ p → p < 53 → t ≡ b % 2 ^ (p - 1) → 2 ^ 51 + bitAnd t (2 ^ (p - 2) - 1) * 2 ^ (53 - p) % 2 ^ 64 ≡ quiet p 53 b
-top-fraction p b t two less e =
-    ap (λ (z : ℕ). 2 ^ 51 + z * 2 ^ (53 - p) % 2 ^ 64) (and-mask t (p - 2) ∙ ap (λ (z : ℕ). z % 2 ^ (p - 2)) e ∙ ap (λ (z : ℕ). b % 2 ^ z % 2 ^ (p - 2)) one-more ∙ mod-mod-pow b 1 (p - 2))
-    ∙ ap (λ (z : ℕ). 2 ^ 51 + z) (shl-exact (p - 2) (53 - p) 64 (mod-lt b (pow-pos (p - 2))) (omega arith))
-    ∙ sym (quiet-widened p 53 b (omega arith) (omega arith) two)
-  where
-    one-more : p - 1 ≡ 1 + (p - 2)
-    one-more = omega arith
 
 pub own-fraction : (b : ℕ) → b % 2 ^ 52 ≡ nanPattern f64 53 11 b % 2 ^ 52
 unfolding nanPattern

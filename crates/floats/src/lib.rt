@@ -2,9 +2,10 @@
 // value, so that whatever follows knows one form.
 ghost use mathlib.Core.Path.{_≡_};
 ghost use mathlib.Core.Bool.{cond};
-ghost use Prim.Native.Nat.{_*_, _^_, _<_, _≤_};
-ghost use Rattle.patterns.specs.Kind.{f16, f32, f64};
+ghost use Prim.Native.Nat.{ℕ, _*_, _^_, _<_, _≤_};
+ghost use Rattle.patterns.specs.Kind.{binary, f16, f32, f64};
 ghost use Rattle.floats.specs.Parts.{partsOf};
+ghost use Rattle.floats.specs.Widened.{Widens, WidenedFields, widenedField, widenedOf};
 ghost use Rattle.floats.specs.Form.{scaledOf, finiteFloat, infiniteOrNan, floatOf, Canonical, CanonicalClass, finiteBits, f64Of};
 
 // Sign, exponent field and fraction of a float's bits.
@@ -12,6 +13,15 @@ pub struct Parts {
     pub negative: bool,
     pub exponent: u64,
     pub fraction: u64,
+}
+
+// The fields of a float narrower than f64, as those of an f32: the exponent field counts from f32's start, and the fraction stands at the top. At the
+// exponent field 0 the fraction counts units of 2^spacing.
+pub struct Widened {
+    pub negative: bool,
+    pub exponent: u64,
+    pub fraction: u64,
+    pub spacing: u64,
 }
 
 // The magnitude significand × 2^exponent, counted from 2^-1074: 53 significant bits, or fewer at the exponent 0.
@@ -127,44 +137,76 @@ pub fn read_f64(b: u64) -> Float
     }
 }
 
-// An f32's bits as an element; a NaN's highest fraction bit is set.
-pub fn read_f32(b: u32) -> Float
-    ensures { λ r. ⌜ r ≡ floatOf f32 b ⌝ }
+// An f32's fields, which are their own.
+pub fn widen_f32(b: u32) -> Widened
+    ensures { λ r. ⌜ r ≡ widenedOf 24 8 925 b ⌝ }
 {
     let parts = parts_f32(b);
-    let exponent = parts.exponent;
-    let fraction = parts.fraction;
+    Widened {
+        negative: parts.negative,
+        exponent: parts.exponent,
+        fraction: parts.fraction,
+        spacing: 925,
+    }
+}
+
+// The exponent field of an f16 as that of an f32.
+fn widen_exponent_f16(exponent: u64) -> u64
+    requires { ⌜ exponent ≤ 31 ⌝ }
+    ensures { λ r. ⌜ r ≡ widenedField 5 112 exponent ⌝ }
+{
+    match exponent {
+        0 => 0,
+        1..=30 => exponent + 112,
+        31.. => 255,
+    }
+}
+
+// An f16's fields as those of an f32.
+pub fn widen_f16(b: u16) -> Widened
+    ensures { λ r. ⌜ r ≡ widenedOf 11 5 1050 b ⌝ }
+{
+    let parts = parts_f16(b);
+    Widened {
+        negative: parts.negative,
+        exponent: widen_exponent_f16(parts.exponent),
+        fraction: parts.fraction << 13,
+        spacing: 1037,
+    }
+}
+
+// The element of a float narrower than f64, by its widened fields; a NaN's highest fraction bit is set.
+pub fn read_widened(f: Widened) -> Float
+    requires { ⌜ WidenedFields f ⌝ }
+    ensures { λ r. ⌜ ((p w s b : ℕ) → Widens p w s → f ≡ widenedOf p w s b → r ≡ floatOf (binary p w s) b) ⌝ }
+{
+    let exponent = f.exponent;
+    let fraction = f.fraction;
     match exponent {
         0 => {
-            let x = normalize(fraction, 925);
-            finite(parts.negative, x.significand, x.exponent)
+            let x = normalize(fraction, f.spacing);
+            finite(f.negative, x.significand, x.exponent)
         }
-        1..=254 => finite(parts.negative, (0x80_0000 + fraction) << 29, exponent + 895),
+        1..=254 => finite(f.negative, (0x80_0000 + fraction) << 29, exponent + 895),
         255.. => {
             let top = (fraction & 0x3f_ffff) << 29;
-            infinite_or_nan(parts.negative, fraction, 0x8_0000_0000_0000 + top)
+            infinite_or_nan(f.negative, fraction, 0x8_0000_0000_0000 + top)
         }
     }
 }
 
-// An f16's bits as an element; a NaN's highest fraction bit is set.
+// An f32's bits as an element.
+pub fn read_f32(b: u32) -> Float
+    ensures { λ r. ⌜ r ≡ floatOf f32 b ⌝ }
+{
+    read_widened(widen_f32(b))
+}
+
+// An f16's bits as an element.
 pub fn read_f16(b: u16) -> Float
     ensures { λ r. ⌜ r ≡ floatOf f16 b ⌝ }
 {
-    let parts = parts_f16(b);
-    let exponent = parts.exponent;
-    let fraction = parts.fraction;
-    match exponent {
-        0 => {
-            let x = normalize(fraction, 1050);
-            finite(parts.negative, x.significand, x.exponent)
-        }
-        1..=30 => finite(parts.negative, (0x400 + fraction) << 42, exponent + 1007),
-        31.. => {
-            let top = (fraction & 0x1ff) << 42;
-            infinite_or_nan(parts.negative, fraction, 0x8_0000_0000_0000 + top)
-        }
-    }
+    read_widened(widen_f16(b))
 }
 
 // The bits below the sign of a finite magnitude as an f64.

@@ -26,14 +26,14 @@ pub i32-row : IntegerRow I32
 i32-row = record { positive = lit< tt; at-most-64 = lit≤ tt; low = refl; high = refl }
 
 abbrev pub F32 : FloatFormat
-F32 = record { precision = 24; «exponent_bits» = 8; lowest = 0xc7ef_ffff_e000_0000; highest = 0x47ef_ffff_e000_0000 }
+F32 = record { precision = 24; «exponent_bits» = 8; spacing = 925; lowest = 0xc7ef_ffff_e000_0000; highest = 0x47ef_ffff_e000_0000 }
 
 pub f32-row : FloatRow F32
 unfolding valueOf patternOf pick bitsMag size
 f32-row = inl refl
 
 abbrev pub F64 : FloatFormat
-F64 = record { precision = 53; «exponent_bits» = 11; lowest = 0xffef_ffff_ffff_ffff; highest = 0x7fef_ffff_ffff_ffff }
+F64 = record { precision = 53; «exponent_bits» = 11; spacing = 0; lowest = 0xffef_ffff_ffff_ffff; highest = 0x7fef_ffff_ffff_ffff }
 
 pub f64-row : FloatRow F64
 unfolding valueOf patternOf pick bitsMag size

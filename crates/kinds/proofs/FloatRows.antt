@@ -1,4 +1,4 @@
--- The float rows: what holds of each holds of a row, and by their precision: 24 is f32's alone, 11 is f16's, and any other is f64's.
+-- The float rows: what holds of each holds of a row, and by their precision: 53 is f64's alone, 11 is f16's, and any other is f32's.
 use mathlib.Core.Path.{_≡_, refl, sym, subst}
 use mathlib.Core.Logic.{⊎-elim}
 use native.Mathlib.Omega.{arith}
@@ -12,8 +12,8 @@ module _ (f : FloatFormat) (row : FloatRow f) where
   pub half : f .precision ≡ 11 → f ≡ floatFormat 11 5 1050
   half = by-row (λ (g : FloatFormat). g .precision ≡ 11 → g ≡ floatFormat 11 5 1050) (λ _. refl) (λ (e : 24 ≡ 11). absurd (omega arith)) (λ (e : 53 ≡ 11). absurd (omega arith)) f row
 
-  pub single : f .precision ≡ 24 → f ≡ floatFormat 24 8 925
-  single = by-row (λ (g : FloatFormat). g .precision ≡ 24 → g ≡ floatFormat 24 8 925) (λ (e : 11 ≡ 24). absurd (omega arith)) (λ _. refl) (λ (e : 53 ≡ 24). absurd (omega arith)) f row
+  pub double : f .precision ≡ 53 → f ≡ floatFormat 53 11 0
+  double = by-row (λ (g : FloatFormat). g .precision ≡ 53 → g ≡ floatFormat 53 11 0) (λ (e : 11 ≡ 53). absurd (omega arith)) (λ (e : 24 ≡ 53). absurd (omega arith)) (λ _. refl) f row
 
-  pub double : (f .precision ≡ 11 → ⊥) → (f .precision ≡ 24 → ⊥) → f ≡ floatFormat 53 11 0
-  double = by-row (λ (g : FloatFormat). (g .precision ≡ 11 → ⊥) → (g .precision ≡ 24 → ⊥) → g ≡ floatFormat 53 11 0) (λ n _. absurd (n refl)) (λ _ n. absurd (n refl)) (λ _ _. refl) f row
+  pub single : (f .precision ≡ 53 → ⊥) → (f .precision ≡ 11 → ⊥) → f ≡ floatFormat 24 8 925
+  single = by-row (λ (g : FloatFormat). (g .precision ≡ 53 → ⊥) → (g .precision ≡ 11 → ⊥) → g ≡ floatFormat 24 8 925) (λ _ n. absurd (n refl)) (λ _ _. refl) (λ n _. absurd (n refl)) f row

@@ -16,7 +16,7 @@ integerFormat s n = record { bits = n; signed = s; lowest = lowInt s n; highest 
 
 -- the largest finite float's pattern is the one before the infinity's
 abbrev pub floatFormat : ℕ → ℕ → ℕ → FloatFormat
-floatFormat p w s = record { precision = p; «exponent_bits» = w; lowest = asF64 (binary p w s) (infinity p w true - 1); highest = asF64 (binary p w s) (infinity p w false - 1) }
+floatFormat p w s = record { precision = p; «exponent_bits» = w; spacing = s; lowest = asF64 (binary p w s) (infinity p w true - 1); highest = asF64 (binary p w s) (infinity p w false - 1) }
 
 unfoldable pub formatOf : Kind → Format
 formatOf (integer s n) = Integer (integerFormat s n)
@@ -30,9 +30,8 @@ rowOf k = record { bytes = width k; format = formatOf k }
 abbrev pub integerOf : IntegerFormat → Kind
 integerOf f = integer (f .signed) (f .bits)
 
--- the exponents of an interchange format are centred: its smallest spacing follows from its precision and its exponent field
 abbrev pub floatOf : FloatFormat → Kind
-floatOf f = binary (f .precision) (f .«exponent_bits») (1077 - (2 ^ (f .«exponent_bits» - 1) + f .precision))
+floatOf f = binary (f .precision) (f .«exponent_bits») (f .spacing)
 
 abbrev pub kindIn : Format → Kind
 kindIn (Integer f) = integerOf f

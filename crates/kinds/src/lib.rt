@@ -12,10 +12,11 @@ pub struct IntegerFormat {
     pub highest: u64,
 }
 
-// A float kind: its significant bits, the bits of its exponent field, and -MAX and MAX as f64 patterns.
+// A float kind: its significant bits, the bits of its exponent field, its smallest spacing 2^spacing counted from 2^-1074, and -MAX and MAX as f64 patterns.
 pub struct FloatFormat {
     pub precision: u32,
     pub exponent_bits: u32,
+    pub spacing: u64,
     pub lowest: u64,
     pub highest: u64,
 }
@@ -93,6 +94,7 @@ const U64: IntegerFormat = IntegerFormat {
 const F16: FloatFormat = FloatFormat {
     precision: 11,
     exponent_bits: 5,
+    spacing: 1050,
     lowest: 0xc0ef_fc00_0000_0000,
     highest: 0x40ef_fc00_0000_0000,
 };
@@ -100,6 +102,7 @@ const F16: FloatFormat = FloatFormat {
 pub const F32: FloatFormat = FloatFormat {
     precision: 24,
     exponent_bits: 8,
+    spacing: 925,
     lowest: 0xc7ef_ffff_e000_0000,
     highest: 0x47ef_ffff_e000_0000,
 };
@@ -107,6 +110,7 @@ pub const F32: FloatFormat = FloatFormat {
 pub const F64: FloatFormat = FloatFormat {
     precision: 53,
     exponent_bits: 11,
+    spacing: 0,
     lowest: 0xffef_ffff_ffff_ffff,
     highest: 0x7fef_ffff_ffff_ffff,
 };

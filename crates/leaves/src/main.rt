@@ -369,11 +369,11 @@ fn put_fit(f: Fit) {
 
 fn narrow(b: u64, mode: RoundingMode) {
     let x = floats::read_f64(b);
-    put_fit(narrowing::narrow_f32(x, mode, OutOfRangeMode::None));
+    put_fit(narrowing::narrow(x, 24, 8, 925, mode, OutOfRangeMode::None));
 }
 
 fn narrowed(b: u64) {
-    text(b"read_f64, narrow_f32");
+    text(b"read_f64, narrow to f32");
     number(b, 16);
     narrow(b, RoundingMode::NearestEven);
     narrow(b, RoundingMode::TowardsZero);
@@ -385,11 +385,11 @@ fn narrowed(b: u64) {
 
 fn narrow_16(b: u64, mode: RoundingMode) {
     let x = floats::read_f64(b);
-    put_fit(narrowing::narrow_f16(x, mode, OutOfRangeMode::None));
+    put_fit(narrowing::narrow(x, 11, 5, 1050, mode, OutOfRangeMode::None));
 }
 
 fn narrowed_16(b: u64) {
-    text(b"read_f64, narrow_f16");
+    text(b"read_f64, narrow to f16");
     number(b, 16);
     narrow_16(b, RoundingMode::NearestEven);
     narrow_16(b, RoundingMode::TowardsZero);

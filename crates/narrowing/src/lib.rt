@@ -2,7 +2,7 @@
 ghost use mathlib.Core.Path.{_≡_};
 ghost use Prim.Native.Nat.{_*_, _^_, _<_};
 ghost use Rattle.patterns.specs.Float.{infBits};
-ghost use Rattle.patterns.specs.Kind.{binary, f16, f32};
+ghost use Rattle.patterns.specs.Kind.{binary};
 ghost use Rattle.patterns.specs.Pattern.{quiet};
 ghost use Rattle.floats.specs.Form.{Canonical, CanonicalClass};
 ghost use Rattle.narrowing.specs.Format.{Narrower, FormatBits, Rebiasable, narrowed, rebiased};
@@ -82,7 +82,7 @@ fn fit_bits(
 }
 
 // A float rounded to the format of p significant bits, w bits of exponent field and the smallest spacing 2^s.
-fn narrow(x: Float, p: u32, w: u32, s: u64, mode: RoundingMode, range: OutOfRangeMode) -> Fit
+pub fn narrow(x: Float, p: u32, w: u32, s: u64, mode: RoundingMode, range: OutOfRangeMode) -> Fit
     requires { ⌜ CanonicalClass (x .class) × Narrower p s × FormatBits p w ⌝ }
     ensures { λ r. ⌜ r ≡ fitFloat (binary p w s) mode range x ⌝ }
 {
@@ -106,22 +106,6 @@ fn narrow(x: Float, p: u32, w: u32, s: u64, mode: RoundingMode, range: OutOfRang
     }
 }
 
-// A float rounded to f16.
-pub fn narrow_f16(x: Float, mode: RoundingMode, range: OutOfRangeMode) -> Fit
-    requires { ⌜ CanonicalClass (x .class) ⌝ }
-    ensures { λ r. ⌜ r ≡ fitFloat f16 mode range x ⌝ }
-{
-    narrow(x, 11, 5, 1050, mode, range)
-}
-
-// A float rounded to f32.
-pub fn narrow_f32(x: Float, mode: RoundingMode, range: OutOfRangeMode) -> Fit
-    requires { ⌜ CanonicalClass (x .class) ⌝ }
-    ensures { λ r. ⌜ r ≡ fitFloat f32 mode range x ⌝ }
-{
-    narrow(x, 24, 8, 925, mode, range)
-}
-
 // The bits below the sign of a number that f64 has as `bits`, in a format of p significant bits and the smallest spacing 2^s where the number is 0
 // or normal: the exponent field counts from another start, and the low bits are dropped; of a number with p significant bits they are 0.
 fn rebias(bits: u64, p: u32, s: u64) -> u64
@@ -136,18 +120,19 @@ fn rebias(bits: u64, p: u32, s: u64) -> u64
     (bits - (base << 52)) >> drop
 }
 
-// An integer that was rounded to f16's precision, has the bits below its sign in f64 and lies where `ternary` says, as an f16.
-pub fn rebias_f16(bits: u64, ternary: Ternary, negative: bool, range: OutOfRangeMode) -> Fit
-    requires { ⌜ Rebiasable 11 1050 bits ⌝ }
-    ensures { λ r. ⌜ r ≡ fitBits 11 5 negative range (rebiased 11 1050 bits) ternary ⌝ }
+// An integer that was rounded to p significant bits, has the bits below its sign in f64 and lies where `ternary` says, in the format of p significant
+// bits, w bits of exponent field and the smallest spacing 2^s.
+pub fn fit_rebiased(
+    bits: u64,
+    ternary: Ternary,
+    negative: bool,
+    p: u32,
+    w: u32,
+    s: u64,
+    range: OutOfRangeMode,
+) -> Fit
+    requires { ⌜ Narrower p s × FormatBits p w × Rebiasable p s bits ⌝ }
+    ensures { λ r. ⌜ r ≡ fitBits p w negative range (rebiased p s bits) ternary ⌝ }
 {
-    fit_bits(rebias(bits, 11, 1050), ternary, negative, 11, 5, range)
-}
-
-// An integer that was rounded to f32's precision, has the bits below its sign in f64 and lies where `ternary` says, as an f32.
-pub fn rebias_f32(bits: u64, ternary: Ternary, negative: bool, range: OutOfRangeMode) -> Fit
-    requires { ⌜ Rebiasable 24 925 bits ⌝ }
-    ensures { λ r. ⌜ r ≡ fitBits 24 8 negative range (rebiased 24 925 bits) ternary ⌝ }
-{
-    fit_bits(rebias(bits, 24, 925), ternary, negative, 24, 8, range)
+    fit_bits(rebias(bits, p, s), ternary, negative, p, w, range)
 }

@@ -15,7 +15,7 @@ use Rattle.patterns.specs.Pattern.{nanPattern, quiet, withSign}
 use Rattle.patterns.proofs.Floats.{below-is, nan-lt, sign-is}
 
 -- ---- with exponents that are sums
-times-pow : (t j k : ℕ) → t * 2 ^ j * 2 ^ k ≡ t * 2 ^ (j + k)
+pub times-pow : (t j k : ℕ) → t * 2 ^ j * 2 ^ k ≡ t * 2 ^ (j + k)
 times-pow t j k = mul-assoc t (2 ^ j) (2 ^ k) ∙ ap (λ (z : ℕ). t * z) (sym (pow-add 2 j k))
 
 shift-both : (t u v c a : ℕ) → u + a ≡ v + c → t * 2 ^ u / 2 ^ v ≡ t * 2 ^ c / 2 ^ a
@@ -24,7 +24,7 @@ shift-both t u v c a e =
     ∙ ap₂ _/_ (times-pow t u a ∙ ap (λ (z : ℕ). t * 2 ^ z) (e ∙ add-comm v c) ∙ sym (times-pow t c v)) (sym (pow-add 2 v a) ∙ ap (λ (z : ℕ). 2 ^ z) (add-comm v a) ∙ pow-add 2 a v)
     ∙ mul-div-mul-right (t * 2 ^ c) (2 ^ a) (pow-pos v)
 
-low-of-shifted : (t i u : ℕ) → t * 2 ^ u % 2 ^ (i + u) ≡ t % 2 ^ i * 2 ^ u
+pub low-of-shifted : (t i u : ℕ) → t * 2 ^ u % 2 ^ (i + u) ≡ t % 2 ^ i * 2 ^ u
 low-of-shifted t i u =
     mod-pow-add (t * 2 ^ u) i u
     ∙ ap₂ (λ (x y : ℕ). x % 2 ^ i * 2 ^ u + y) (mul-div-cancel t (pow-pos u)) (mul-mod-left t (2 ^ u))
@@ -46,28 +46,16 @@ module _ (p m b : ℕ) (some : 0 < p) (wider : p ≤ m) where
   abbrev Q : ℕ
   Q = 2 ^ (m - 2) + t * 2 ^ (m - p) % 2 ^ (m - 2)
 
-  at-top : quiet p m b ≡ Q
-  at-top = ap (λ (z : ℕ). 2 ^ (m - 2) + z % 2 ^ (m - 2)) (ap (λ (z : ℕ). z / 2 ^ (p - 1)) (ap (λ (z : ℕ). t * 2 ^ z) split ∙ sym (times-pow t (m - p) (p - 1))) ∙ mul-div-cancel (t * 2 ^ (m - p)) (pow-pos (p - 1)))
+  pub quiet-at-top : quiet p m b ≡ Q
+  quiet-at-top = ap (λ (z : ℕ). 2 ^ (m - 2) + z % 2 ^ (m - 2)) (ap (λ (z : ℕ). z / 2 ^ (p - 1)) (ap (λ (z : ℕ). t * 2 ^ z) split ∙ sym (times-pow t (m - p) (p - 1))) ∙ mul-div-cancel (t * 2 ^ (m - p)) (pow-pos (p - 1)))
     where
       split : m - 1 ≡ m - p + (p - 1)
       split = omega arith
 
-  pub quiet-widened : 2 ≤ p → quiet p m b ≡ 2 ^ (m - 2) + b % 2 ^ (p - 2) * 2 ^ (m - p)
-  quiet-widened two =
-      at-top
-      ∙ ap (λ (z : ℕ). 2 ^ (m - 2) + t * 2 ^ (m - p) % 2 ^ z) below
-      ∙ ap (λ (z : ℕ). 2 ^ (m - 2) + z) (low-of-shifted t (p - 2) (m - p) ∙ ap (λ (z : ℕ). z * 2 ^ (m - p)) (ap (λ (z : ℕ). b % 2 ^ z % 2 ^ (p - 2)) one-more ∙ mod-mod-pow b 1 (p - 2)))
-    where
-      below : m - 2 ≡ p - 2 + (m - p)
-      below = omega arith
-
-      one-more : p - 1 ≡ 1 + (p - 2)
-      one-more = omega arith
-
   -- and from there to p′, which are not more than m
   pub quiet-through : (p′ : ℕ) → 2 ≤ p′ → p′ ≤ m → quiet m p′ (quiet p m b) ≡ quiet p p′ b
   quiet-through p′ two most =
-      ap (quiet m p′) at-top
+      ap (quiet m p′) quiet-at-top
       ∙ ap (λ (z : ℕ). 2 ^ (p′ - 2) + z % 2 ^ (p′ - 2)) (ap (λ (z : ℕ). z * 2 ^ (p′ - 1) / 2 ^ (m - 1)) (mod-eq-of-lt inside) ∙ ap (λ (z : ℕ). Q * 2 ^ (p′ - 1) / z) (ap (λ (z : ℕ). 2 ^ z) dropped ∙ pow-add 2 (m - p′) (p′ - 1)) ∙ mul-div-mul-right Q (2 ^ (m - p′)) (pow-pos (p′ - 1)))
       ∙ ap (λ (z : ℕ). 2 ^ (p′ - 2) + (2 ^ z + t * 2 ^ (m - p) % 2 ^ z) / 2 ^ (m - p′) % 2 ^ (p′ - 2)) kept
       ∙ ap (λ (z : ℕ). 2 ^ (p′ - 2) + z) (under-bit (t * 2 ^ (m - p)) (p′ - 2) (m - p′))

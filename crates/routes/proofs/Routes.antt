@@ -1,9 +1,9 @@
 -- The route of two rows of the table: it has their rows, and its kinds are theirs.
-use mathlib.Core.Path.{_≡_, refl, ap}
+use mathlib.Core.Path.{_≡_, refl, sym, ap, _∙_}
 use mathlib.Core.Bool.{Bool, true, false, cond, _&&_, Bool·beq}
-use Prim.Native.Nat.{ℕ, _<_}
+use Prim.Native.Nat.{ℕ}
 use native.Mathlib.Omega.{arith}
-use lib.Dec.{eqb, lit<}
+use lib.Dec.{eqb}
 use borrow.Author.Tests.{eqb-true, eqb-false}
 use Rattle.patterns.specs.Kind.{integer}
 use Rattle.kinds.specs.Row.{floatOf, kindIn, FloatRow, FormatRow}
@@ -57,10 +57,10 @@ same-integers s t m n = go (eqb m n) refl s t
     go false e s t h = no h
 
 same-floats : (f t : FloatFormat) → FloatRow f → FloatRow t → f .precision ≡ t .precision → f ≡ t
-same-floats f t a b h = by-row (λ (x : FloatFormat). f .precision ≡ x .precision → f ≡ x) (half f a) (single f a) (λ e. double f a (λ z. absurd (differ e z (lit< tt))) (λ z. absurd (differ e z (lit< tt)))) t b h
+same-floats f t a b h = by-row (λ (x : FloatFormat). f .precision ≡ x .precision → f ≡ x) (half f a) (λ e. single f a (λ z. differ e z (λ (y : 24 ≡ 53). omega arith)) (λ z. differ e z (λ (y : 24 ≡ 11). omega arith))) (double f a) t b h
   where
-    differ : {m n : ℕ} → m ≡ 53 → m ≡ n → n < 53 → ⊥
-    differ e z l = omega arith
+    differ : {m n k : ℕ} → m ≡ n → m ≡ k → (n ≡ k → ⊥) → ⊥
+    differ e z other = other (sym e ∙ z)
 
 pub target-kind : (s t : Format) → FormatRow s → FormatRow t → targetOf (routeOf s t) ≡ kindIn t
 target-kind (Integer f) (Integer t) a b = go (eqb (f .bits) (t .bits) && Bool·beq (f .signed) (t .signed)) refl
