@@ -81,6 +81,16 @@ pub fn mapped(target: u64) -> Fit
     }
 }
 
+// What a conversion leaves of an element that it does not round.
+pub fn exact(pattern: u64) -> Fit
+    ensures { λ r. ⌜ r ≡ Fit.Pattern pattern Fared.Exact ⌝ }
+{
+    Fit::Pattern {
+        pattern: pattern,
+        fared: Fared::Exact,
+    }
+}
+
 // The number of an answer, 0 to 8.
 pub fn number(a: Answer) -> u8
     ensures { λ r. ⌜ r ≡ numberOf a ⌝ }

@@ -29,10 +29,11 @@ use Rattle.integers.specs.Precision.{Precision, roundedBits}
 use Rattle.integers.specs.declared.Integer.{Integer}
 use Rattle.integers.proofs.Bounds.{pick-in-f64, pick-on}
 use Rattle.integers.proofs.Scale.{pick-scale}
-use Rattle.narrowing.specs.Fit.{fitBits}
-use Rattle.narrowing.specs.Format.{Narrower, Rebiasable, rebiased}
-use Rattle.narrowing.proofs.Fits.{bits-fit, number-fit}
-use Rattle.narrowing.proofs.Magnitudes.{rebias-exact, rebiasable}
+use Rattle.float_range.specs.Range.{fitBits}
+use Rattle.narrowing.specs.Format.{Narrower}
+use Rattle.rebiasing.specs.Rebiased.{Rebiasable, rebiased}
+use Rattle.float_range.proofs.Fits.{bits-fit, number-fit}
+use Rattle.rebiasing.proofs.Exact.{rebias-exact, rebiasable}
 use Rattle.conversions.specs.Fit.{fitInteger}
 
 module _ (x : Integer) (small : x .magnitude < 2 ^ 64) (mode : RoundingMode) (range : OutOfRangeMode) (rounded : Rounded) where

@@ -6,7 +6,8 @@ use Rattle.kinds.specs.Row.{FloatRow}
 use Rattle.kinds.specs.declared.FloatFormat.{FloatFormat}
 use Rattle.kinds.proofs.FloatRows.{by-row}
 use Rattle.integers.specs.Precision.{Precision}
-use Rattle.narrowing.specs.Format.{Narrower, FormatBits}
+use Rattle.float_range.specs.Range.{FormatBits}
+use Rattle.narrowing.specs.Format.{Narrower}
 
 pub row-precision : (f : FloatFormat) → FloatRow f → Precision (f .precision)
 row-precision = by-row (λ (f : FloatFormat). Precision (f .precision)) (record { two = lit≤ tt; at-most-53 = lit≤ tt }) (record { two = lit≤ tt; at-most-53 = lit≤ tt }) (record { two = lit≤ tt; at-most-53 = lit≤ tt })

@@ -1,16 +1,18 @@
 // The four element conversions, from the inner form of an element to the pattern of a kind's format.
 ghost use mathlib.Core.Path.{_≡_};
+ghost use Prim.Native.Nat.{_*_, _^_};
+ghost use Rattle.grid.specs.Round.{signed};
 ghost use Rattle.grid.specs.declared.RoundingMode.{RoundingMode};
 ghost use Rattle.kinds.specs.Row.{integerOf, floatOf, IntegerRow, FloatRow};
-ghost use Rattle.floats.specs.Form.{CanonicalClass};
+ghost use Rattle.cast_spec.specs.Fit.{fitNumber};
+ghost use Rattle.floats.specs.Form.{Canonical, CanonicalClass};
 ghost use Rattle.narrowing.specs.Fit.{fitFloat};
-ghost use Rattle.narrowing.specs.Format.{Narrower, FormatBits};
 ghost use Rattle.conversions.specs.Fit.{fitInteger};
 use answers::Fit;
 use codes::OutOfRangeMode;
-use counts::Fared;
 use floats::Class;
 use floats::Float;
+use floats::Scaled;
 use grid::RoundingMode;
 use grid::Ternary;
 use integers::Integer;
@@ -45,15 +47,26 @@ pub fn convert_int_to_int(x: Integer, to: IntegerFormat, range: OutOfRangeMode) 
     integer_range::apply_range(x.negative, x.magnitude, false, Ternary::Exact, to, range)
 }
 
-// A float to a float kind that is narrower than f64.
-fn float_to_narrower(x: Float, to: FloatFormat, mode: RoundingMode, range: OutOfRangeMode) -> Fit
-    requires { ⌜ CanonicalClass (x .class) × Narrower (to .precision) (to .spacing) × FormatBits (to .precision) (to .«exponent_bits») ⌝ }
-    ensures { λ r. ⌜ r ≡ fitFloat (floatOf to) mode range x ⌝ }
+// A finite float of the given sign to a float kind; to f64 it is exact.
+fn finite_to_float(
+    x: Scaled,
+    negative: bool,
+    to: FloatFormat,
+    mode: RoundingMode,
+    range: OutOfRangeMode,
+) -> Fit
+    requires { ⌜ Canonical x × FloatRow to ⌝ }
+    ensures { λ r. ⌜ r ≡ fitNumber (floatOf to) mode range negative (signed negative (x .significand * 2 ^ x .exponent)) ⌝ }
 {
-    narrowing::narrow(x, to.precision, to.exponent_bits, to.spacing, mode, range)
+    let p = to.precision;
+    let w = to.exponent_bits;
+    match p {
+        53 => answers::exact(floats::sign_bit(negative, 63) + floats::finite_bits(x)),
+        _ => narrowing::narrow(x, negative, p, w, to.spacing, mode, range),
+    }
 }
 
-// A float to a float kind; to f64 it is exact.
+// A float to a float kind: a number is rounded, and an infinity or a NaN is carried. A number is told first, so that the compiler need not tell it twice.
 pub fn convert_float_to_float(
     x: Float,
     to: FloatFormat,
@@ -63,13 +76,15 @@ pub fn convert_float_to_float(
     requires { ⌜ CanonicalClass (x .class) × FloatRow to ⌝ }
     ensures { λ r. ⌜ r ≡ fitFloat (floatOf to) mode range x ⌝ }
 {
+    let negative = x.negative;
+    let class = x.class;
+    if let Class::Finite(magnitude) = class {
+        return finite_to_float(magnitude, negative, to, mode, range);
+    }
     let precision = to.precision;
     match precision {
-        53 => Fit::Pattern {
-            pattern: floats::write_f64(x),
-            fared: Fared::Exact,
-        },
-        _ => float_to_narrower(x, to, mode, range),
+        53 => answers::exact(floats::write_f64(x)),
+        _ => answers::exact(narrowing::narrow_special(x, precision, to.exponent_bits)),
     }
 }
 
@@ -92,7 +107,7 @@ pub fn convert_int_to_float(
             pattern: floats::sign_bit(negative, 63) + rounded.bits,
             fared: counts::by_pick(ternary),
         },
-        _ => narrowing::fit_rebiased(
+        _ => rebiasing::fit_rebiased(
             rounded.bits,
             ternary,
             negative,

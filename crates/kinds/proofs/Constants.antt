@@ -38,3 +38,10 @@ F64 = record { precision = 53; «exponent_bits» = 11; spacing = 0; lowest = 0xf
 pub f64-row : FloatRow F64
 unfolding valueOf patternOf pick bitsMag size
 f64-row = inr (inl refl)
+
+abbrev pub F16 : FloatFormat
+F16 = record { precision = 11; «exponent_bits» = 5; spacing = 1050; lowest = 0xc0ef_fc00_0000_0000; highest = 0x40ef_fc00_0000_0000 }
+
+pub f16-row : FloatRow F16
+unfolding valueOf patternOf pick bitsMag size
+f16-row = inr (inr refl)

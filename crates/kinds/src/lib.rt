@@ -91,7 +91,7 @@ const U64: IntegerFormat = IntegerFormat {
     highest: 18446744073709551615,
 };
 
-const F16: FloatFormat = FloatFormat {
+pub const F16: FloatFormat = FloatFormat {
     precision: 11,
     exponent_bits: 5,
     spacing: 1050,

@@ -4,6 +4,7 @@ ghost use mathlib.Core.Path.{_≡_};
 ghost use Prim.Native.Nat.{_<_, _≤_, _+_, _*_};
 ghost use lib.ListN.{length};
 ghost use Rattle.bytes_le.specs.Bytes.{Width};
+ghost use Rattle.kinds.specs.Row.{FloatRow};
 ghost use Rattle.integers.specs.Magnitude.{IntegerPattern};
 ghost use Rattle.integers.specs.Precision.{Precision};
 use answers::Fit;
@@ -15,6 +16,7 @@ use floats::Float;
 use grid::Rounded;
 use grid::RoundingMode;
 use grid::Ternary;
+use kinds::FloatFormat;
 use libc::STDOUT_FILENO;
 
 fn text(s: &[u8]) {
@@ -367,36 +369,33 @@ fn put_fit(f: Fit) {
     }
 }
 
-fn narrow(b: u64, mode: RoundingMode) {
+fn narrow(b: u64, to: FloatFormat, mode: RoundingMode)
+    requires { ⌜ FloatRow to ⌝ }
+{
     let x = floats::read_f64(b);
-    put_fit(narrowing::narrow(x, 24, 8, 925, mode, OutOfRangeMode::None));
+    put_fit(conversions::convert_float_to_float(x, to, mode, OutOfRangeMode::None));
 }
 
-fn narrowed(b: u64) {
-    text(b"read_f64, narrow to f32");
+fn narrowed(b: u64, to: FloatFormat)
+    requires { ⌜ FloatRow to ⌝ }
+{
     number(b, 16);
-    narrow(b, RoundingMode::NearestEven);
-    narrow(b, RoundingMode::TowardsZero);
-    narrow(b, RoundingMode::TowardsPositive);
-    narrow(b, RoundingMode::TowardsNegative);
-    narrow(b, RoundingMode::NearestAway);
+    narrow(b, to, RoundingMode::NearestEven);
+    narrow(b, to, RoundingMode::TowardsZero);
+    narrow(b, to, RoundingMode::TowardsPositive);
+    narrow(b, to, RoundingMode::TowardsNegative);
+    narrow(b, to, RoundingMode::NearestAway);
     end();
 }
 
-fn narrow_16(b: u64, mode: RoundingMode) {
-    let x = floats::read_f64(b);
-    put_fit(narrowing::narrow(x, 11, 5, 1050, mode, OutOfRangeMode::None));
+fn narrowed_32(b: u64) {
+    text(b"read_f64, narrow to f32");
+    narrowed(b, kinds::F32);
 }
 
 fn narrowed_16(b: u64) {
     text(b"read_f64, narrow to f16");
-    number(b, 16);
-    narrow_16(b, RoundingMode::NearestEven);
-    narrow_16(b, RoundingMode::TowardsZero);
-    narrow_16(b, RoundingMode::TowardsPositive);
-    narrow_16(b, RoundingMode::TowardsNegative);
-    narrow_16(b, RoundingMode::NearestAway);
-    end();
+    narrowed(b, kinds::F16);
 }
 
 fn integer(magnitude: u64, negative: bool, precision: u32, mode: RoundingMode)
@@ -434,12 +433,12 @@ fn rounded_integer(magnitude: u64, negative: bool, precision: u32)
 
 fn rounded_once() {
     // 2^128 - 2^103, -2^128, 2^-150, -2^-200, two NaNs
-    narrowed(0x47effffff0000000);
-    narrowed(0xc7f0000000000000);
-    narrowed(0x3690000000000000);
-    narrowed(0xb370000000000000);
-    narrowed(0x7ff0000000000001);
-    narrowed(0xfff8000020000000);
+    narrowed_32(0x47effffff0000000);
+    narrowed_32(0xc7f0000000000000);
+    narrowed_32(0x3690000000000000);
+    narrowed_32(0xb370000000000000);
+    narrowed_32(0x7ff0000000000001);
+    narrowed_32(0xfff8000020000000);
     // to f16: 65520 - 2^-20, 65520, 65536, 1 + 2^-11 + 2^-40, 2^-25, halfway above the largest subnormal, a NaN
     narrowed_16(0x40effdfffffe0000);
     narrowed_16(0x40effe0000000000);

@@ -2,12 +2,11 @@
 use mathlib.Core.Path.{_≡_, refl, sym, ap, ap₂, _∙_}
 use mathlib.Core.Bool.{Bool, true, false, Bool·beq}
 use Prim.Native.Nat.{ℕ, zero, suc, _+_, _-_, _*_, _%_, _^_, _≤_, _<_}
-use native.Mathlib.Nat.{mul-pos, mod-eq-of-lt, mod-eq-sub-mod}
+use native.Mathlib.Nat.{mod-eq-of-lt, mod-eq-sub-mod}
 use native.Mathlib.Omega.{arith}
 use lib.Bits.{bitAnd, bitOr, and-mask, or-zero-l, or-add-and, and-le-l, and-le-r}
 use lib.Dec.{eqb, ltb, leb, lit<, lit≤}
 use lib.IntN.{ℤ, pos, natAbs}
-use lib.Pow.{pow-pos, pow-mono}
 use borrow.Author.Tests.{lt-ltb, le-ltb, eq-eqb, ne-eqb, leb-true, leb-false, eqb-true, eqb-false}
 use Rattle.grid.specs.Round.{signed}
 use Rattle.grid.proofs.Neighbours.{cut, pow-twice-pred}
@@ -15,7 +14,7 @@ use Rattle.patterns.specs.Float.{bitsMag, infBits}
 use Rattle.patterns.specs.Kind.{binary, bits}
 use Rattle.patterns.specs.Value.{nan, inf, num, floatValue, valueOf}
 use Rattle.patterns.proofs.Encode.{zero-bits, bits-mono}
-use Rattle.patterns.proofs.Floats.{abs-signed, same-bits}
+use Rattle.patterns.proofs.Floats.{abs-signed, inf-pos, same-bits}
 use Rattle.kinds.specs.Row.{floatOf, FloatRow}
 use Rattle.kinds.specs.declared.FloatFormat.{FloatFormat}
 use Rattle.kinds.proofs.FloatRows.{by-row}
@@ -67,9 +66,6 @@ either-zero x k e = (omega (arith, or-add-and x k, and-le-r x k), omega (arith, 
 module _ (p w s : ℕ) (two : 2 ≤ p) (positive : 0 < w) where
   abbrev top : ℕ
   top = 2 ^ (w + p - 1)
-
-  inf-pos : 0 < infBits p w
-  inf-pos = mul-pos (omega (arith, pow-mono {i = 1} {j = w} positive)) (pow-pos (p - 1))
 
   -- "Those of a finite number are less, those of a NaN more"
   finite : (neg : Bool) (x : ℕ) → x < infBits p w → floatValue p w s neg x ≡ num (signed neg (bitsMag p s x))
@@ -129,11 +125,11 @@ module _ (p w s : ℕ) (two : 2 ≤ p) (positive : 0 < w) where
     other-key h = cut k (infBits p w)
         (λ (l : k < infBits p w). by-bits x
         (λ m. numbers (eqb (bitOr x k) 0) refl ∙ sym (ap₂ matches (finite a x m) (finite b k l)))
-        (λ m. some-bit (omega (arith, inf-pos)) ∙ sym (ap₂ matches (infinite a x m) (finite b k l)))
+        (λ m. some-bit (omega (arith, inf-pos p w s two positive)) ∙ sym (ap₂ matches (infinite a x m) (finite b k l)))
         (λ m. some-bit (omega arith) ∙ sym (ap₂ matches (no-number a x m) (finite b k l))))
         (λ (l : infBits p w ≤ k).
         let e : k ≡ infBits p w = omega arith in
-        some-bit (omega (arith, inf-pos)) ∙ sym (by-bits x
+        some-bit (omega (arith, inf-pos p w s two positive)) ∙ sym (by-bits x
         (λ m. ap₂ matches (finite a x m) (infinite b k e))
         (λ m. ap₂ matches (infinite a x m) (infinite b k e) ∙ false-if-absurd (Bool·beq a b) (λ f. other (signs-agree a b f) (m ∙ sym e)))
         (λ m. ap₂ matches (no-number a x m) (infinite b k e))))

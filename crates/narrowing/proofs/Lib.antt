@@ -1,4 +1,4 @@
 pub mod Carried
 pub mod Magnitudes
 pub mod Formats
-pub mod Fits
+pub mod Specials

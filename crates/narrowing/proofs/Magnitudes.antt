@@ -1,37 +1,31 @@
 -- The bits below the sign of a finite magnitude rounded to a narrower format, and where they lie: where its numbers are normal, and where they are not.
 use mathlib.Core.Path.{_≡_, refl, sym, ap, ap₂, subst, _∙_}
-use mathlib.Core.Bool.{Bool, false}
+use mathlib.Core.Bool.{Bool}
 use Prim.Native.Nat.{max, min, ℕ, _+_, _-_, _*_, _/_, _%_, _^_, _≤_, _<_}
-use native.Mathlib.Nat.{add-comm, div-lt-iff-lt-mul, le-add-right, le-antisymm, le-trans, mod-eq-of-lt, mul-le-mul-right, zero-add}
+use native.Mathlib.Nat.{add-comm, div-lt-iff-lt-mul, le-antisymm, le-trans, mod-eq-of-lt, zero-add}
 use native.Mathlib.Omega.{arith}
-use borrow.Author.Tests.{ne-eqb}
-use lib.Dec.{lit<, lit≤}
+use lib.Dec.{lit<}
 use lib.Ieee.{size}
 use lib.Ieee.Digits.{size-lt, size-le}
-use lib.IntN.{natAbs}
 use lib.Pow.{pow-add, pow-mono, pow-pos}
 use Rattle.grid.specs.declared.RoundingMode.{RoundingMode}
-use Rattle.grid.specs.declared.RoundingMode.the-variants.{TowardsZero}
 use Rattle.grid.specs.declared.Rounded.{Rounded}
 use Rattle.grid.specs.declared.Ternary.{Ternary}
-use Rattle.grid.specs.Grid.{OnMag, float, whole}
+use Rattle.grid.specs.Grid.{float, whole}
 use Rattle.grid.specs.Round.{pickMag, ruleFor, signed, step}
 use Rattle.grid.specs.Ternary.{ternaryOf, ternaryFor}
 use Rattle.grid.proofs.Kept.{pick-shift}
-use Rattle.grid.proofs.Neighbours.{cut, finer}
-use Rattle.grid.proofs.Picked.{picked-pos}
+use Rattle.grid.proofs.Neighbours.{cut}
 use Rattle.grid.proofs.Step.{step-le}
 use Rattle.patterns.specs.Float.{bitsMag}
 use Rattle.patterns.specs.Pattern.{magBits}
 use Rattle.patterns.proofs.PickBits.{float-law}
-use Rattle.patterns.proofs.Encode.{encode, zero-bits}
-use Rattle.patterns.proofs.Floats.{bits-again, mag-back}
-use Rattle.floats.specs.Form.{Canonical, CanonicalClass, scaledOf}
-use Rattle.floats.specs.declared.Class.the-variants.{Finite}
-use Rattle.floats.proofs.Values.{scaled-bits, scaled-whole}
+use Rattle.patterns.proofs.Encode.{encode}
+use Rattle.patterns.proofs.Floats.{bits-again}
+use Rattle.floats.specs.Form.{Canonical}
 use Rattle.rounding.specs.Rounding.{Droppable, shifted, unitsOf}
 use Rattle.rounding.proofs.Units.{over-unit, whole-times-unit, below-power, below-unit, unit-side}
-use Rattle.narrowing.specs.Format.{Narrower, Rebiasable, narrowed, rebiased}
+use Rattle.narrowing.specs.Format.{Narrower, narrowed}
 use Rattle.grid.proofs.Sides.{side-power}
 use Rattle.narrowing.proofs.Carried.{fields-even, carried, carried-side}
 
@@ -104,7 +98,7 @@ module _ (neg : Bool) (mode : RoundingMode) (m e p s : ℕ) (ask : Canonical (re
   rounded-of x j b t = ap₂ {C = Rounded} (λ (b : ℕ) (t : Ternary). record { bits = b; ternary = t }) (sym (bits-again p 1 s (narrower .two) (lit< tt) _) ∙ ap (magBits p s) b) t
 
   module _ (reach : base ≤ e) where
-    field-fits : (e - base) * 2 ^ 52 % 2 ^ 64 ≡ (e - base) * 2 ^ 52
+    pub field-fits : (e - base) * 2 ^ 52 % 2 ^ 64 ≡ (e - base) * 2 ^ 52
     field-fits = mod-eq-of-lt (omega (arith, ask .finite))
 
     pub normal-drops : Droppable ((e - base) * 2 ^ 52 % 2 ^ 64 + m) drop
@@ -131,39 +125,3 @@ module _ (neg : Bool) (mode : RoundingMode) (m e p s : ℕ) (ask : Canonical (re
         let near = below-power m e (p + s) (ask .small) (omega (arith, narrower .fewer)) in
         rounded-of m j (ap (bitsMag p s) units ∙ units-bits r p s (m * 2 ^ e) (narrower .two) near)
         (unit-side neg s m e j _ (ask .small) (omega arith) is ∙ ap (λ (z : ℕ). ternaryOf (signed neg (m * 2 ^ e)) (signed neg z)) (ap (λ (q : ℕ). q * 2 ^ s) units ∙ sym (whole-times-unit r s (m * 2 ^ e)) ∙ same-spacing r p s (m * 2 ^ e) (narrower .two) near))
-
-zero-mag : (p s : ℕ) → 2 ≤ p → magBits p s 0 ≡ 0
-zero-mag p s two = ap (magBits p s) (sym (zero-bits p s two)) ∙ bits-again p 1 s two (lit< tt) 0
-
--- ---- a number of the narrower format, 0 or normal there: nothing is dropped
-module _ (p s n : ℕ) (narrower : Narrower p s) (on : OnMag (float p s) n) (canonical : CanonicalClass (Finite (scaledOf n))) (normal : (n ≡ 0 → ⊥) → s - (53 - p) ≤ scaledOf n .exponent) where
-  on-f64 : OnMag (float 53 0) n
-  on-f64 = finer p s 53 0 n (omega (arith, narrower .fewer)) (omega arith) on
-
-  bits-are : magBits 53 0 n ≡ scaledOf n .exponent * 2 ^ 52 + scaledOf n .significand
-  bits-are = sym (scaled-bits n on-f64)
-
-  zero-only : magBits 53 0 n ≡ 0 → n ≡ 0
-  zero-only e = sym (mag-back 53 11 0 (lit≤ tt) (lit< tt) n on-f64) ∙ ap (bitsMag 53 0) e ∙ zero-bits 53 0 (lit≤ tt)
-
-  pub rebiasable : Rebiasable p s (magBits 53 0 n)
-  rebiasable = record { normal = λ h. subst (λ (z : ℕ). (s - (53 - p)) * 2 ^ 52 ≤ z) (sym bits-are) (le-trans (mul-le-mul-right (2 ^ 52) (normal (λ e. h (ap (magBits 53 0) e ∙ zero-mag 53 0 (lit≤ tt))))) (le-add-right _ _)) }
-
-  own-pick : (r : RoundingMode) → pickMag (float p s) r n ≡ n
-  own-pick r = ap natAbs (picked-pos (float p s) (narrower .two) r n .itself on)
-
-  pub rebias-exact : rebiased p s (magBits 53 0 n) ≡ magBits p s n
-  rebias-exact = cut 0 n
-      (λ (h : 0 < n).
-      let m = scaledOf n .significand in
-      let e = scaledOf n .exponent in
-      let reach = normal (λ (z : n ≡ 0). omega arith) in
-      simp (ne-eqb (magBits 53 0 n) 0 (λ (z : magBits 53 0 n ≡ 0). omega (arith, zero-only z)))
-      (ap (λ (z : ℕ). z / 2 ^ (53 - p)) (ap (λ (z : ℕ). z - (s - (53 - p)) * 2 ^ 52) bits-are ∙ taken-off e m (s - (53 - p)) reach ∙ ap (λ (z : ℕ). z + m) (sym (field-fits false TowardsZero m e p s canonical narrower reach)))
-      ∙ ap (λ (w : Rounded). w .bits) (normal-rounded false TowardsZero m e p s canonical narrower reach)
-      ∙ ap (λ (z : ℕ). magBits p s (pickMag (float p s) TowardsZero z)) (scaled-whole n on-f64)
-      ∙ ap (magBits p s) (own-pick TowardsZero)))
-      (λ (h : n ≤ 0). let z : n ≡ 0 = omega arith in ap (λ (i : ℕ). rebiased p s (magBits 53 0 i)) z ∙ ap (rebiased p s) (zero-mag 53 0 (lit≤ tt)) ∙ sym (ap (magBits p s) z ∙ zero-mag p s (narrower .two)))
-    where
-      taken-off : (e m b : ℕ) → b ≤ e → e * 2 ^ 52 + m - b * 2 ^ 52 ≡ (e - b) * 2 ^ 52 + m
-      taken-off e m b h = omega arith

@@ -1,8 +1,6 @@
 -- Internal: the formats that are narrower than f64.
-use mathlib.Core.Path.{_≡_}
-use mathlib.Core.Bool.{Bool, cond}
-use Prim.Native.Nat.{ℕ, _-_, _*_, _/_, _^_, _≤_, _<_}
-use lib.Dec.{eqb}
+use mathlib.Core.Bool.{Bool}
+use Prim.Native.Nat.{ℕ, _-_, _≤_, _<_}
 use Rattle.grid.specs.Grid.{float}
 use Rattle.grid.specs.Round.{pickMag, ruleFor}
 use Rattle.grid.specs.Ternary.{ternaryFor}
@@ -20,17 +18,3 @@ pub record Narrower (p s : ℕ) : Type 0 where
 -- the bits below the sign of a magnitude n in such a format, and where they lie
 abbrev pub narrowed : ℕ → ℕ → Bool → RoundingMode → ℕ → Rounded
 narrowed p s neg r n = record { bits = magBits p s (pickMag (float p s) (ruleFor neg r) n); ternary = ternaryFor (float p s) neg r n }
-
--- p significant bits and w bits of exponent field
-pub record FormatBits (p w : ℕ) : Type 0 where
-  pub two : 2 ≤ p
-  pub fewer : p < 53
-  pub positive : 0 < w
-  pub at-most-11 : w < 12
-
--- 0, or the bits of a number that is normal in the narrower format
-pub record Rebiasable (p s bits : ℕ) : Type 0 where
-  pub normal : (bits ≡ 0 → ⊥) → (s - (53 - p)) * 2 ^ 52 ≤ bits
-
-abbrev pub rebiased : ℕ → ℕ → ℕ → ℕ
-rebiased p s bits = cond (eqb bits 0) 0 ((bits - (s - (53 - p)) * 2 ^ 52) / 2 ^ (53 - p))

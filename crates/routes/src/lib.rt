@@ -5,7 +5,6 @@ ghost use Rattle.routes.specs.Route.{integerRoute, floatRoute, routeOf, 
 use answers::Fit;
 use answers::Lookup;
 use codes::OutOfRangeMode;
-use counts::Fared;
 use grid::RoundingMode;
 use kinds::FloatFormat;
 use kinds::Format;
@@ -79,10 +78,7 @@ pub fn step(b: u64, found: Lookup, route: Route, mode: RoundingMode, range: OutO
         return answers::mapped(pattern);
     }
     match route {
-        Route::Same(_) => Fit::Pattern {
-            pattern: b,
-            fared: Fared::Exact,
-        },
+        Route::Same(_) => answers::exact(b),
         Route::IntToInt { from, to } => {
             let x = integers::int_magnitude(b, from.signed, from.bits);
             steps::step_int_to_int(x, found, to, range)

@@ -26,7 +26,7 @@ use Rattle.cast_spec.specs.Element.{Settings, converted, ranged}
 use Rattle.integers.specs.Magnitude.{magnitudeOf}
 use Rattle.integers.proofs.Magnitudes.{magnitude-value}
 use Rattle.element.proofs.Integers.{numberOf}
-use Rattle.narrowing.proofs.Fits.{in-range-stored}
+use Rattle.float_range.proofs.Fits.{in-range-stored}
 use Rattle.cast_spec.specs.Fit.{unmapped}
 
 -- a number of the target's grid and range is stored as it is

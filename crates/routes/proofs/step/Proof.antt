@@ -73,12 +73,14 @@ step-float-to-float-requires c κs =
 
 returns-2 : tie.Need-returns-2
 returns-2 c =
-    let t = c .before .before .before .before in
+    let m = c .before in
+    let t = m .before .before .before .before in
     let a = t .args in
-    let k = c .enum-told2 .given in
+    let k = m .enum-told2 .given in
     let f = k .0 .0 in
-    unchanged f (subst RouteRow (k .1) (t .pre .0)) (a .b) (subst (SourcePattern (a .b)) (k .1) (t .pre .1)) (a .mode) (a .range)
-    ∙ missing-fit (a .found) (fitOf (unmapped (kindIn f) (kindIn f) (a .mode) (a .range) (a .b))) (c .before .before .enum-told .given .1)
+    c .exact .ensures
+    ∙ unchanged f (subst RouteRow (k .1) (t .pre .0)) (a .b) (subst (SourcePattern (a .b)) (k .1) (t .pre .1)) (a .mode) (a .range)
+    ∙ missing-fit (a .found) (fitOf (unmapped (kindIn f) (kindIn f) (a .mode) (a .range) (a .b))) (m .before .before .enum-told .given .1)
     ∙ ap (λ (r : Route). stepped (a .found) (sourceOf r) (targetOf r) (a .mode) (a .range) (a .b)) (sym (k .1))
 
 returns-3 : tie.Need-returns-3
@@ -126,4 +128,4 @@ returns-6 c =
     ∙ ap (λ (r : Route). stepped (a .found) (sourceOf r) (targetOf r) (a .mode) (a .range) (a .b)) (sym (k .1))
 
 pub step-spec : {M : Type 1} → statement M
-step-spec = tie.close (tie.spec (λ c. search needs) (λ c κs. search needs) returns (λ c. search needs) (λ c. search needs) (λ c. search needs) int-magnitude-requires step-int-to-int-requires (λ c. search needs) int-magnitude-requires-2 step-int-to-float-requires (λ c. search needs) read-float-requires step-float-to-int-requires (λ c. search needs) read-float-requires-2 step-float-to-float-requires returns-2 returns-3 returns-4 returns-5 returns-6)
+step-spec = tie.close (tie.spec (λ c. search needs) (λ c κs. search needs) returns (λ c. search needs) (λ c. search needs) (λ c κs. search needs) (λ c. search needs) int-magnitude-requires step-int-to-int-requires (λ c. search needs) int-magnitude-requires-2 step-int-to-float-requires (λ c. search needs) read-float-requires step-float-to-int-requires (λ c. search needs) read-float-requires-2 step-float-to-float-requires returns-2 returns-3 returns-4 returns-5 returns-6)

@@ -1,13 +1,13 @@
--- `narrowing::rebias` meets its contract: 0, or the difference of the two starts taken off and the low bits dropped.
+-- `rebiasing::rebias` meets its contract: 0, or the difference of the two starts taken off and the low bits dropped.
 use mathlib.Core.Path.{_≡_, ap, _∙_}
 use Prim.Native.Nat.{ℕ, _-_, _*_, _/_, _%_, _^_}
 use native.Mathlib.Nat.{mod-eq-of-lt}
 use native.Mathlib.Omega.{arith}
 use borrow.Author.Needs.{needs}
 use borrow.Author.Tests.{eq-eqb, ne-eqb}
 use Rattle.narrowing.specs.Format.{Narrower}
-use Rattle.narrowing.proofs.rebias.Statement.{statement}
-use Rattle.narrowing.proofs.rebias.Tie as tie
+use Rattle.rebiasing.proofs.rebias.Statement.{statement}
+use Rattle.rebiasing.proofs.rebias.Tie as tie
 
 start-fits : (p s : ℕ) → Narrower p s → (s - (53 - p)) * 2 ^ 52 % 2 ^ 64 ≡ (s - (53 - p)) * 2 ^ 52
 start-fits p s n = mod-eq-of-lt (omega (arith, n .within))

@@ -1,15 +1,10 @@
--- What a float comes to in a narrower format: a pick in range, one past it, an infinity and a NaN.
+-- What a pick comes to in a float kind, by its bits: stored in range, and past it as the range choice says.
 use mathlib.Core.Path.{_≡_, refl, sym, ap, ap₂, _∙_}
-use mathlib.Core.Bool.{Bool, true, false, cond}
-use mathlib.Core.List.{[], _∷_}
-use mathlib.Core.Logic.{⊎-elim}
-use Prim.Native.Nat.{ℕ, _+_, _-_, _*_, _/_, _%_, _^_, _≤_, _<_}
+use mathlib.Core.Bool.{Bool, cond}
+use Prim.Native.Nat.{ℕ, _+_, _-_, _^_, _≤_, _<_}
 use native.Mathlib.Omega.{arith}
-use lib.Dec.{lit<, lit≤}
 use lib.IntN.{ℤ}
-use denote.Enum.Declared.{tagOf}
-use types.Run.{OneOf}
-use borrow.Author.Tests.{le-ltb, lt-ltb, ne-eqb}
+use borrow.Author.Tests.{le-ltb, lt-ltb}
 use Rattle.grid.specs.Grid.{float}
 use Rattle.grid.specs.Round.{pick, pickMag, ruleFor, signed}
 use Rattle.grid.specs.Ternary.{ternaryOf, ternaryFor}
@@ -19,12 +14,10 @@ use Rattle.grid.proofs.Kept.{pick-signed}
 use Rattle.grid.proofs.Neighbours.{cut}
 use Rattle.grid.proofs.Picked.{picked-pos}
 use Rattle.patterns.specs.Float.{bitsMag, infBits}
-use Rattle.patterns.specs.Kind.{Kind, InRange, binary, f64}
-use Rattle.patterns.specs.Value.{negative}
-use Rattle.patterns.specs.Pattern.{infinity, magBits, nanPattern, patternOf, quiet, withSign}
-use Rattle.patterns.proofs.Floats.{abs-signed, bits-in-range, bits-past-range, mag-back, sign-is}
+use Rattle.patterns.specs.Kind.{Kind, InRange, binary}
+use Rattle.patterns.specs.Pattern.{infinity, magBits, patternOf, withSign}
+use Rattle.patterns.proofs.Floats.{abs-signed, bits-in-range, bits-past-range, inf-lt, mag-back}
 use Rattle.counts.specs.Counts.{byPick}
-use Rattle.counts.specs.declared.Fared.the-variants.{Exact}
 use Rattle.codes.specs.declared.OutOfRangeMode.{OutOfRangeMode}
 use Rattle.codes.specs.declared.OutOfRangeMode.the-variants.{None, Clamp, Wrap}
 use Rattle.answers.specs.declared.Outcome.{Outcome}
@@ -32,14 +25,9 @@ use Rattle.answers.specs.declared.Outcome.the-variants.{Stored}
 use Rattle.answers.specs.declared.Fit.the-variants.{Pattern, OutOfRange}
 use Rattle.cast_spec.specs.Element.{beyond, ranged}
 use Rattle.cast_spec.proofs.Steps.{by-range}
-use Rattle.floats.specs.Form.{f64Of}
-use Rattle.floats.specs.declared.Class.{Class}
-use Rattle.floats.specs.declared.Class.the-variants.{Finite, Infinite, NotANumber}
-use Rattle.floats.specs.declared.Float.{Float}
-use Rattle.floats.specs.declared.Scaled.{Scaled}
-use Rattle.floats.proofs.Class.{the-type}
 use Rattle.cast_spec.specs.Fit.{fitOf, fitNumber}
-use Rattle.narrowing.specs.Fit.{overrunFit, fitBits, fitClass, fitFloat}
+use Rattle.float_range.specs.Range.{FormatBits, overrunFit, fitBits}
+use Rattle.floats.proofs.Signs.{signed-fits}
 
 -- ---- a pick in range is stored, and one past it goes as the range choice says
 module _ (k : Kind) (range : OutOfRangeMode) (v : ℕ) (neg : Bool) (x y : ℤ) where
@@ -100,39 +88,6 @@ module _ (p w s : ℕ) (two : 2 ≤ p) (some : 0 < w) (mode : RoundingMode) (ran
       (λ (h : r < infBits p w). sym (bits-fit p w neg range r t h) ∙ fit-is (Stored (withSign (w + p) neg r) (byPick t)) (stored h))
       (λ (h : infBits p w ≤ r). sym (overrun-fit p w neg range r t h) ∙ past-fit p w s neg y range ∙ fit-is (beyond k range 0 neg y) (past-range-beyond k range 0 neg x y (bits-past-range p w s two some neg r h)))
 
--- ---- by the class
-module _ (p w s : ℕ) (mode : RoundingMode) (range : OutOfRangeMode) (f : Float) where
-  pub finite-fit : (x : Scaled) → f .class ≡ Finite x → fitNumber (binary p w s) mode range (f .negative) (signed (f .negative) (x .significand * 2 ^ x .exponent)) ≡ fitFloat (binary p w s) mode range f
-  finite-fit x e = ap (fitClass (binary p w s) mode range f) (sym e)
-
-  -- a class that is neither `Finite` nor `NotANumber`, as a program tells it: by the number of its variant
-  pub infinite-fit : OneOf (1 ∷ 2 ∷ []) (tagOf the-type (f .class)) → OneOf (0 ∷ 1 ∷ []) (tagOf the-type (f .class)) → Pattern (infinity p w (f .negative)) Exact ≡ fitFloat (binary p w s) mode range f
-  infinite-fit = go (f .class)
-    where
-      go : (c : Class) → OneOf (1 ∷ 2 ∷ []) (tagOf the-type c) → OneOf (0 ∷ 1 ∷ []) (tagOf the-type c) → Pattern (infinity p w (f .negative)) Exact ≡ fitClass (binary p w s) mode range f c
-      go (Finite m) t u = absurd (⊎-elim (λ (e : _≡_ {A = ℕ} 0 1). omega arith) (λ (e : _≡_ {A = ℕ} 0 2). omega arith) t)
-      go Infinite t u = refl
-      go (NotANumber m) t u = absurd (⊎-elim (λ (e : _≡_ {A = ℕ} 2 0). omega arith) (λ (e : _≡_ {A = ℕ} 2 1). omega arith) u)
-
-  -- the sign and the fraction of the f64 that stands for a NaN
-  module _ (t : ℕ) (e : f .class ≡ NotANumber t) (small : t < 2 ^ 52) where
-    nan-bits : f64Of f ≡ withSign 64 (f .negative) (infBits 53 11 + t)
-    nan-bits = ap (λ (c : Class). f64Of (record { negative = f .negative; class = c })) e
-
-    nan-sign : negative f64 (f64Of f) ≡ f .negative
-    nan-sign = ap (negative f64) nan-bits ∙ sign-is 53 11 0 (lit≤ tt) (lit< tt) (f .negative) (infBits 53 11 + t) (omega arith)
-
-    nan-fraction : f64Of f % 2 ^ 52 ≡ t % 2 ^ 52
-    nan-fraction = ap (λ (z : ℕ). z % 2 ^ 52) nan-bits ∙ go (f .negative)
-      where
-        go : (neg : Bool) → withSign 64 neg (infBits 53 11 + t) % 2 ^ 52 ≡ t % 2 ^ 52
-        go true = omega arith
-        go false = omega arith
-
-    pub nan-fit : p < 53 → Pattern (withSign (w + p) (f .negative) (infBits p w + quiet 53 p t)) Exact ≡ fitFloat (binary p w s) mode range f
-    unfolding nanPattern
-    nan-fit less =
-        sym (simp (ne-eqb 53 p (λ (z : 53 ≡ p). omega arith))
-        (ap (λ (b : Bool). Pattern (withSign (w + p) b (infBits p w + quiet 53 p (f64Of f))) Exact) nan-sign
-        ∙ ap (λ (z : ℕ). Pattern (withSign (w + p) (f .negative) (infBits p w + (2 ^ (p - 2) + z * 2 ^ (p - 1) / 2 ^ 52 % 2 ^ (p - 2)))) Exact) nan-fraction))
-        ∙ ap (fitClass (binary p w s) mode range f) (sym e)
+-- the sign's bit over bits that are at most an infinity's
+pub below-fits : (p w : ℕ) → FormatBits p w → (neg : Bool) (s x : ℕ) → s ≡ cond neg (2 ^ (w + p - 1)) 0 → x ≤ infBits p w → s + x < 2 ^ 64
+below-fits p w f neg s x e h = signed-fits (w + p) neg s x e (omega (arith, f .two)) (omega (arith, f .fewer, f .at-most-11)) (omega (arith, inf-lt p w 0 (f .two) (f .positive)))

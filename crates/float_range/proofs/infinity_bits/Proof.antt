@@ -1,10 +1,10 @@
--- `narrowing::infinity_bits` meets its contract: a field of ones over a fraction of 0.
+-- `float_range::infinity_bits` meets its contract: a field of ones over a fraction of 0.
 use native.Mathlib.Omega.{arith}
 use lib.Pow.{pow-pos}
 use borrow.Author.Needs.{needs}
 use Rattle.patterns.proofs.Shifts.{one-shifted, infinity-shifted}
-use Rattle.narrowing.proofs.infinity_bits.Statement.{statement}
-use Rattle.narrowing.proofs.infinity_bits.Tie as tie
+use Rattle.float_range.proofs.infinity_bits.Statement.{statement}
+use Rattle.float_range.proofs.infinity_bits.Tie as tie
 
 sub-result : tie.Need-sub-result
 sub-result c = omega (arith, one-shifted (c .args .w) (omega arith), pow-pos (c .args .w))
