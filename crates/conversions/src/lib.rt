@@ -61,7 +61,7 @@ fn finite_to_float(
     let p = to.precision;
     let w = to.exponent_bits;
     match p {
-        53 => answers::exact(floats::sign_bit(negative, 63) + floats::finite_bits(x)),
+        53 => answers::exact(float_fields::sign_bit(negative, 63) + floats::finite_bits(x)),
         _ => narrowing::narrow(x, negative, p, w, to.spacing, mode, range),
     }
 }
@@ -104,7 +104,7 @@ pub fn convert_int_to_float(
     let ternary = rounded.ternary;
     match precision {
         53 => Fit::Pattern {
-            pattern: floats::sign_bit(negative, 63) + rounded.bits,
+            pattern: float_fields::sign_bit(negative, 63) + rounded.bits,
             fared: counts::by_pick(ternary),
         },
         _ => rebiasing::fit_rebiased(

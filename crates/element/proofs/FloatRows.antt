@@ -5,9 +5,9 @@ use Rattle.patterns.specs.Kind.{bits}
 use Rattle.kinds.specs.Row.{floatOf, FloatRow}
 use Rattle.kinds.specs.declared.FloatFormat.{FloatFormat}
 use Rattle.kinds.proofs.FloatRows.{by-row}
-use Rattle.floats.specs.Widened.{Widens}
+use Rattle.float_fields.specs.Widened.{Widens}
+use Rattle.float_fields.proofs.Widenings.{f16-widens, f32-widens}
 use Rattle.floats.proofs.Values.{Formed, f16-formed, f32-formed, f64-formed}
-use Rattle.floats.proofs.Widenings.{f16-widens, f32-widens}
 
 pub row-formed : (f : FloatFormat) → FloatRow f → (b : ℕ) → b < 2 ^ bits (floatOf f) → Formed (floatOf f) b
 row-formed f row b = by-row (λ (z : FloatFormat). b < 2 ^ bits (floatOf z) → Formed (floatOf z) b) (λ _. f16-formed b) (λ _. f32-formed b) (f64-formed b) f row

@@ -3,15 +3,15 @@ ghost use mathlib.Core.Path.{_≡_};
 ghost use Rattle.patterns.specs.Pattern.{asF64};
 ghost use Rattle.kinds.specs.Row.{floatOf, kindIn, FormatRow};
 ghost use Rattle.cast_spec.specs.Fit.{filled};
+ghost use Rattle.float_fields.specs.Widened.{widenedOf};
 ghost use Rattle.floats.specs.Form as form;
-ghost use Rattle.floats.specs.Widened.{widenedOf};
 ghost use Rattle.element.specs.Element.{FloatPattern, FormatPattern, elementOf, elementF64, CanonicalElement};
 ghost use Rattle.element.specs.Refusal.{RefusalOf};
 use answers::Answer;
 use answers::Fit;
 use answers::Outcome;
+use float_fields::Widened;
 use floats::Float;
-use floats::Widened;
 use integers::Integer;
 use kinds::FloatFormat;
 use kinds::Format;
@@ -31,8 +31,8 @@ fn widen(b: u64, format: FloatFormat) -> Widened
 {
     let precision = format.precision;
     match precision {
-        11 => floats::widen_f16(b as u16),
-        _ => floats::widen_f32(b as u32),
+        11 => float_fields::widen_f16(b as u16),
+        _ => float_fields::widen_f32(b as u32),
     }
 }
 

@@ -27,7 +27,7 @@ use Rattle.cast_spec.specs.Element.{beyond, ranged}
 use Rattle.cast_spec.proofs.Steps.{by-range}
 use Rattle.cast_spec.specs.Fit.{fitOf, fitNumber}
 use Rattle.float_range.specs.Range.{FormatBits, overrunFit, fitBits}
-use Rattle.floats.proofs.Signs.{signed-fits}
+use Rattle.float_fields.proofs.Signs.{signed-fits}
 
 -- ---- a pick in range is stored, and one past it goes as the range choice says
 module _ (k : Kind) (range : OutOfRangeMode) (v : ℕ) (neg : Bool) (x y : ℤ) where

@@ -21,7 +21,7 @@ pub fn infinity(negative: bool, p: u32, w: u32) -> u64
     requires { ⌜ FormatBits p w ⌝ }
     ensures { λ r. ⌜ r ≡ pattern.infinity p w negative ⌝ }
 {
-    floats::sign_bit(negative, w + p - 1) + infinity_bits(p, w)
+    float_fields::sign_bit(negative, w + p - 1) + infinity_bits(p, w)
 }
 
 // What overruns the format, by the range choice. Wrap, with which no call comes here, does as none.
@@ -53,7 +53,7 @@ pub fn fit_bits(
 {
     if bits < infinity_bits(p, w) {
         return Fit::Pattern {
-            pattern: floats::sign_bit(negative, w + p - 1) + bits,
+            pattern: float_fields::sign_bit(negative, w + p - 1) + bits,
             fared: counts::by_pick(ternary),
         };
     }

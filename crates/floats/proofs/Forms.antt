@@ -17,14 +17,14 @@ use Rattle.patterns.specs.Kind.{Kind, binary, f64}
 use Rattle.patterns.specs.Value.{Value, nan, inf, num, negative, valueOf}
 use Rattle.patterns.specs.Pattern.{nanPattern, quiet, withSign}
 use Rattle.patterns.proofs.Floats.{is-num, is-inf, is-nan, abs-signed}
-use Rattle.floats.specs.Parts.{partsOf}
+use Rattle.float_fields.specs.Parts.{partsOf}
+use Rattle.float_fields.specs.declared.Parts.{Parts}
+use Rattle.float_fields.proofs.Fields.{exponent-is, fraction-is, fraction-small, fields-mag, finite-bits, infinite-bits, nan-bits}
 use Rattle.floats.specs.Form.{scaledOf, classFor, floatOf, finiteFloat, infiniteOrNan}
-use Rattle.floats.specs.declared.Parts.{Parts}
 use Rattle.floats.specs.declared.Scaled.{Scaled}
 use Rattle.floats.specs.declared.Class.{Class}
 use Rattle.floats.specs.declared.Class.the-variants.{Finite, Infinite, NotANumber}
 use Rattle.floats.specs.declared.Float.{Float}
-use Rattle.floats.proofs.Fields.{exponent-is, fraction-is, fraction-small, fields-mag, finite-bits, infinite-bits, nan-bits}
 
 -- ---- 53 significant bits, or fewer at the exponent 0, are written in one way only
 full-size : (m : ℕ) → m < 2 ^ 53 → 2 ^ 52 ≤ m → size m ≡ 53

@@ -1,172 +1,51 @@
--- A float read by its fields as those of an f32: what these are, and the form that they give, for f32 and any format narrower than it.
-use mathlib.Core.Path.{_≡_, refl, sym, ap, ap₂, subst, _∙_}
-use mathlib.Core.Bool.{Bool, cond}
+-- A float read by its fields as those of an f32: the form that they give, for f32 and any format narrower than it.
+use mathlib.Core.Path.{_≡_, refl, sym, ap, _∙_}
+use mathlib.Core.Bool.{Bool}
 use Prim.Native.Nat.{ℕ, _+_, _-_, _*_, _%_, _^_, _≤_, _<_}
-use native.Mathlib.Nat.{add-mul, lt-of-lt-of-le, le-of-eq, mod-eq-of-lt, mod-lt, mul-pos, zero-mul}
+use native.Mathlib.Nat.{mul-pos, zero-mul}
 use native.Mathlib.Omega.{arith}
-use lib.Bits.{bitAnd, and-mask}
-use lib.Dec.{eqb, lit<, lit≤}
-use lib.Pow.{pow-add, pow-pos, shl-exact, shl-lt}
-use borrow.Author.Tests.{eq-eqb, ne-eqb}
+use lib.Pow.{pow-pos}
+use borrow.Author.Tests.{ne-eqb}
 use Rattle.grid.proofs.Neighbours.{cut}
 use Rattle.patterns.specs.Kind.{binary}
-use Rattle.patterns.specs.Pattern.{quiet}
-use Rattle.patterns.proofs.Quiet.{low-of-shifted, quiet-at-top, times-pow}
-use Rattle.floats.specs.Parts.{fieldOf, fractionOf, partsOf}
-use Rattle.floats.specs.Widened.{Widens, WidenedFields, widenedField, widenedOf}
+use Rattle.float_fields.specs.Parts.{fractionOf}
+use Rattle.float_fields.specs.Widened.{Widens, widenedOf}
+use Rattle.float_fields.specs.declared.Widened.{Widened}
+use Rattle.float_fields.proofs.Widenings.{exponent-of, fraction-of, negative-of, quieted, same-magnitude, same-quiet, same-significand}
 use Rattle.floats.specs.Form.{finiteFloat, floatOf, infiniteOrNan, scaledOf}
-use Rattle.floats.specs.declared.Parts.{Parts}
 use Rattle.floats.specs.declared.Scaled.{Scaled}
-use Rattle.floats.specs.declared.Widened.{Widened}
-use Rattle.floats.proofs.Fields.{field-le, fraction-lt}
 use Rattle.floats.proofs.Forms.{subnormal-form, normal-form, special-form, quiet-fraction}
-
--- ---- the exponent field, by the three ranges of the format's own
-module _ (w start x : ℕ) where
-  pub field-0 : x ≡ 0 → 0 ≡ widenedField w start x
-  field-0 e = sym (ap (λ (c : Bool). cond c 0 (cond (eqb x (2 ^ w - 1)) 255 (x + start))) (eq-eqb x 0 e))
-
-  pub field-between : 0 < x → x < 2 ^ w - 1 → x + start ≡ widenedField w start x
-  field-between h l = sym (
-      ap (λ (c : Bool). cond c 0 (cond (eqb x (2 ^ w - 1)) 255 (x + start))) (ne-eqb x 0 (λ (e : x ≡ 0). omega arith))
-      ∙ ap (λ (c : Bool). cond c 255 (x + start)) (ne-eqb x (2 ^ w - 1) (λ (e : x ≡ 2 ^ w - 1). omega arith)))
-
-  pub field-of-ones : 0 < x → x ≡ 2 ^ w - 1 → 255 ≡ widenedField w start x
-  field-of-ones h e = sym (
-      ap (λ (c : Bool). cond c 0 (cond (eqb x (2 ^ w - 1)) 255 (x + start))) (ne-eqb x 0 (λ (z : x ≡ 0). omega arith))
-      ∙ ap (λ (c : Bool). cond c 255 (x + start)) (eq-eqb x (2 ^ w - 1) e))
-
--- ---- and back
-record Sorted (w start x y : ℕ) : Type 0 where
-  pub zero-of : y ≡ 0 → x ≡ 0
-  pub between : 0 < y → y < 255 → (0 < x) × (x < 2 ^ w - 1) × (y ≡ x + start)
-  pub ones : 255 ≤ y → 2 ^ w - 1 ≤ x
-  pub most : y ≤ 255
-
-sorted : (w start x : ℕ) → 0 < w → x ≤ 2 ^ w - 1 → 2 ^ w + start ≤ 256 → Sorted w start x (widenedField w start x)
-sorted w start x some most within = cut 0 x
-    (λ (h : 0 < x). cut x (2 ^ w - 1)
-    (λ (l : x < 2 ^ w - 1). subst (Sorted w start x) (field-between w start x h l) (record { zero-of = λ (e : x + start ≡ 0). absurd (omega arith); between = λ _ _. (h, l, refl); ones = λ (g : 255 ≤ x + start). absurd (omega arith); most = omega arith }))
-    (λ (l : 2 ^ w - 1 ≤ x). subst (Sorted w start x) (field-of-ones w start x h (omega arith)) (record { zero-of = λ (e : 255 ≡ 0). absurd (omega arith); between = λ _ (g : 255 < 255). absurd (omega arith); ones = λ _. l; most = lit≤ tt })))
-    (λ (h : x ≤ 0). subst (Sorted w start x) (field-0 w start x (omega arith)) (record { zero-of = λ _. omega arith; between = λ (g : 0 < 0) _. absurd (omega arith); ones = λ (g : 255 ≤ 0). absurd (omega arith); most = lit≤ tt }))
-
--- f32's own
-pub field-own : (x : ℕ) → x ≤ 255 → x ≡ widenedField 8 0 x
-field-own x most = cut 0 x
-    (λ (h : 0 < x). cut x 255 (λ (l : x < 255). none x ∙ field-between 8 0 x h l) (λ (l : 255 ≤ x). all l ∙ field-of-ones 8 0 x h (all l)))
-    (λ (h : x ≤ 0). zero-is h ∙ field-0 8 0 x (zero-is h))
-  where
-    none : (x : ℕ) → x ≡ x + 0
-    none x = omega arith
-
-    all : 255 ≤ x → x ≡ 255
-    all l = omega arith
-
-    zero-is : x ≤ 0 → x ≡ 0
-    zero-is h = omega arith
-
--- the fields by their parts, whoever took them apart
-pub widened-parts : (p w s b : ℕ) {q : Parts} → q ≡ partsOf p w b → {x y : ℕ} → x ≡ widenedField w (s - 925 - (24 - p)) (q .exponent) → y ≡ q .fraction * 2 ^ (24 - p)
-    → _≡_ {A = Widened} (record { negative = q .negative; exponent = x; fraction = y; spacing = s - (24 - p) }) (widenedOf p w s b)
-widened-parts p w s b is e f = rw (e, f) (ap (λ (q : Parts). record { negative = q .negative; exponent = widenedField w (s - 925 - (24 - p)) (q .exponent); fraction = q .fraction * 2 ^ (24 - p); spacing = s - (24 - p) }) is)
 
 -- ---- the element
 module _ (p w s b : ℕ) (format : Widens p w s) (f : Widened) (is : f ≡ widenedOf p w s b) where
   abbrev d : ℕ
   d = 24 - p
 
-  abbrev start : ℕ
-  start = s - 925 - (24 - p)
-
   abbrev t : ℕ
   t = fractionOf p b
 
-  P : 0 < p
-  P = omega (arith, format .two)
-
-  exponent-of : Sorted w start (fieldOf p w b) (f .exponent)
-  exponent-of = subst (Sorted w start (fieldOf p w b)) (sym (ap (λ (z : Widened). z .exponent) is)) (sorted w start (fieldOf p w b) (format .positive) (field-le p w b P) (format .within))
-
-  fraction-of : f .fraction ≡ t * 2 ^ d
-  fraction-of = ap (λ (z : Widened). z .fraction) is
-
-  negative-of : f .negative ≡ partsOf p w b .negative
-  negative-of = ap (λ (z : Widened). z .negative) is
-
-  fraction-under : f .fraction < 2 ^ 23
-  fraction-under = subst (λ (z : ℕ). z < 2 ^ 23) (sym fraction-of) (lt-of-lt-of-le (shl-lt (p - 1) d (fraction-lt p w b P)) (le-of-eq (ap (λ (z : ℕ). 2 ^ z) top)))
-    where
-      top : p - 1 + (24 - p) ≡ 23
-      top = omega (arith, format .two, format .at-most-24)
-
-  pub widened-fields : WidenedFields f
-  widened-fields = record {
-    fraction-small = fraction-under;
-    exponent-small = exponent-of .most;
-    spacing-large = subst (λ (z : ℕ). 53 ≤ z) (sym (ap (λ (z : Widened). z .spacing) is)) (omega (arith, format .start));
-  }
-
-  same-magnitude : f .fraction * 2 ^ f .spacing ≡ t * 2 ^ s
-  same-magnitude = ap₂ (λ (x y : ℕ). x * 2 ^ y) fraction-of (ap (λ (z : Widened). z .spacing) is) ∙ times-pow t d (s - d) ∙ ap (λ (z : ℕ). t * 2 ^ z) places
-    where
-      places : 24 - p + (s - (24 - p)) ≡ s
-      places = omega (arith, format .start)
-
   pub widened-subnormal : f .exponent ≡ 0 → (x : Scaled) → x ≡ scaledOf (f .fraction * 2 ^ f .spacing) → finiteFloat (f .negative) (x .significand) (x .exponent) ≡ floatOf (binary p w s) b
   widened-subnormal e x g =
-      ap (λ (n : Bool). finiteFloat n (x .significand) (x .exponent)) negative-of
-      ∙ subnormal-form p w s b (format .two) (format .positive) refl (x .significand) (x .exponent) (exponent-of .zero-of e) (g ∙ ap scaledOf same-magnitude)
-
-  -- 29 places up, where f64's 53 bits begin
-  up : d + 29 ≡ 53 - p
-  up = omega (arith, format .at-most-24)
-
-  same-significand : (2 ^ 23 + f .fraction) * 2 ^ 29 % 2 ^ 64 ≡ (2 ^ (p - 1) + t) * 2 ^ (53 - p)
-  same-significand =
-      mod-eq-of-lt (omega (arith, fraction-under))
-      ∙ ap (λ (z : ℕ). z * 2 ^ 29) (ap₂ _+_ (ap (λ (z : ℕ). 2 ^ z) top ∙ pow-add 2 (p - 1) d) fraction-of ∙ sym (add-mul (2 ^ (p - 1)) t (2 ^ d)))
-      ∙ times-pow (2 ^ (p - 1) + t) d 29
-      ∙ ap (λ (z : ℕ). (2 ^ (p - 1) + t) * 2 ^ z) up
-    where
-      top : 23 ≡ p - 1 + (24 - p)
-      top = omega (arith, format .two, format .at-most-24)
+      ap (λ (n : Bool). finiteFloat n (x .significand) (x .exponent)) (negative-of p w s b format f is)
+      ∙ subnormal-form p w s b (format .two) (format .positive) refl (x .significand) (x .exponent) (exponent-of p w s b format f is .zero-of e) (g ∙ ap scaledOf (same-magnitude p w s b format f is))
 
   pub widened-normal : 0 < f .exponent → f .exponent < 255 → finiteFloat (f .negative) ((2 ^ 23 + f .fraction) * 2 ^ 29 % 2 ^ 64) (f .exponent + 895) ≡ floatOf (binary p w s) b
   widened-normal h l =
-      let r = exponent-of .between h l in
-      ap (λ (n : Bool). finiteFloat n ((2 ^ 23 + f .fraction) * 2 ^ 29 % 2 ^ 64) (f .exponent + 895)) negative-of
-      ∙ normal-form p w s b (format .two) (format .positive) refl (53 - p) _ (f .exponent + 895) (omega (arith, format .at-most-24)) (r .0) (r .1) (omega (arith, r .2, r .0, format .start, format .at-most-24)) same-significand
+      let r = exponent-of p w s b format f is .between h l in
+      ap (λ (n : Bool). finiteFloat n ((2 ^ 23 + f .fraction) * 2 ^ 29 % 2 ^ 64) (f .exponent + 895)) (negative-of p w s b format f is)
+      ∙ normal-form p w s b (format .two) (format .positive) refl (53 - p) _ (f .exponent + 895) (omega (arith, format .at-most-24)) (r .0) (r .1) (omega (arith, r .2, r .0, format .start, format .at-most-24)) (same-significand p w s b format f is)
 
   -- the fraction at the top is 0 where the fraction is
   same-special : (neg : Bool) (u : ℕ) → infiniteOrNan neg (f .fraction) u ≡ infiniteOrNan neg t u
-  same-special neg u = ap (λ (z : ℕ). infiniteOrNan neg z u) fraction-of ∙ cut 0 t
+  same-special neg u = ap (λ (z : ℕ). infiniteOrNan neg z u) (fraction-of p w s b format f is) ∙ cut 0 t
       (λ (h : 0 < t). simp (ne-eqb t 0 (λ (e : t ≡ 0). omega arith), ne-eqb (t * 2 ^ d) 0 (λ (e : t * 2 ^ d ≡ 0). omega (arith, mul-pos h (pow-pos d)))))
       (λ (h : t ≤ 0). ap (λ (z : ℕ). infiniteOrNan neg z u) (ap (λ (z : ℕ). z * 2 ^ d) (none h) ∙ zero-mul (2 ^ d) ∙ sym (none h)))
     where
       none : {n : ℕ} → n ≤ 0 → n ≡ 0
       none h = omega arith
 
-  abbrev quieted : ℕ
-  quieted = 2 ^ 51 + bitAnd (f .fraction) (2 ^ 22 - 1) * 2 ^ 29 % 2 ^ 64
-
-  same-quiet : quieted ≡ quiet p 53 b
-  same-quiet =
-      ap (λ (z : ℕ). 2 ^ 51 + z * 2 ^ 29 % 2 ^ 64) (and-mask (f .fraction) 22)
-      ∙ ap (λ (z : ℕ). 2 ^ 51 + z)
-      (shl-exact 22 29 64 (mod-lt (f .fraction) (pow-pos 22)) (lit≤ tt)
-      ∙ sym (low-of-shifted (f .fraction) 22 29)
-      ∙ ap (λ (z : ℕ). z % 2 ^ 51) (ap (λ (z : ℕ). z * 2 ^ 29) fraction-of ∙ times-pow t d 29 ∙ ap (λ (z : ℕ). t * 2 ^ z) up))
-      ∙ sym (quiet-at-top p 53 b P (omega (arith, format .at-most-24)))
-
-  pub widened-special : 255 ≤ f .exponent → infiniteOrNan (f .negative) (f .fraction) quieted ≡ floatOf (binary p w s) b
+  pub widened-special : 255 ≤ f .exponent → infiniteOrNan (f .negative) (f .fraction) (quieted p w s b format f is) ≡ floatOf (binary p w s) b
   widened-special h =
-      same-special (f .negative) quieted
-      ∙ ap (λ (n : Bool). infiniteOrNan n t quieted) negative-of
-      ∙ special-form p w s b (format .two) (format .positive) refl quieted (exponent-of .ones h) (same-quiet ∙ quiet-fraction p w s b (λ (e : p ≡ 53). omega (arith, format .at-most-24)))
-
--- ---- f16 and f32
-pub f16-widens : Widens 11 5 1050
-f16-widens = record { two = lit≤ tt; at-most-24 = lit≤ tt; positive = lit< tt; start = lit≤ tt; within = lit≤ tt }
-
-pub f32-widens : Widens 24 8 925
-f32-widens = record { two = lit≤ tt; at-most-24 = lit≤ tt; positive = lit< tt; start = lit≤ tt; within = lit≤ tt }
+      same-special (f .negative) (quieted p w s b format f is)
+      ∙ ap (λ (n : Bool). infiniteOrNan n t (quieted p w s b format f is)) (negative-of p w s b format f is)
+      ∙ special-form p w s b (format .two) (format .positive) refl (quieted p w s b format f is) (exponent-of p w s b format f is .ones h) (same-quiet p w s b format f is ∙ quiet-fraction p w s b (λ (e : p ≡ 53). omega (arith, format .at-most-24)))

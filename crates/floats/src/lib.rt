@@ -1,28 +1,11 @@
-// A float's bit pattern taken apart and read: the number, the infinity or the NaN that it stands for. A float of any format is read as the f64 that has its
+// A float's bit pattern read by its fields: the number, the infinity or the NaN that it stands for. A float of any format is read as the f64 that has its
 // value, so that whatever follows knows one form.
 ghost use mathlib.Core.Path.{_≡_};
-ghost use mathlib.Core.Bool.{cond};
 ghost use Prim.Native.Nat.{ℕ, _*_, _^_, _<_, _≤_};
 ghost use Rattle.patterns.specs.Kind.{binary, f16, f32, f64};
-ghost use Rattle.floats.specs.Parts.{partsOf};
-ghost use Rattle.floats.specs.Widened.{Widens, WidenedFields, widenedField, widenedOf};
+ghost use Rattle.float_fields.specs.Widened.{Widens, WidenedFields, widenedOf};
 ghost use Rattle.floats.specs.Form.{scaledOf, finiteFloat, infiniteOrNan, floatOf, Canonical, CanonicalClass, finiteBits, f64Of};
-
-// Sign, exponent field and fraction of a float's bits.
-pub struct Parts {
-    pub negative: bool,
-    pub exponent: u64,
-    pub fraction: u64,
-}
-
-// The fields of a float narrower than f64, as those of an f32: the exponent field counts from f32's start, and the fraction stands at the top. At the
-// exponent field 0 the fraction counts units of 2^spacing.
-pub struct Widened {
-    pub negative: bool,
-    pub exponent: u64,
-    pub fraction: u64,
-    pub spacing: u64,
-}
+use float_fields::Widened;
 
 // The magnitude significand × 2^exponent, counted from 2^-1074: 53 significant bits, or fewer at the exponent 0.
 pub struct Scaled {
@@ -41,39 +24,6 @@ pub enum Class {
 pub struct Float {
     pub negative: bool,
     pub class: Class,
-}
-
-// The three fields of an f64's bits.
-pub fn parts_f64(b: u64) -> Parts
-    ensures { λ r. ⌜ r ≡ partsOf 53 11 b ⌝ }
-{
-    Parts {
-        negative: b >> 63 == 1,
-        exponent: (b >> 52) & 0x7ff,
-        fraction: b & 0xf_ffff_ffff_ffff,
-    }
-}
-
-// The three fields of an f32's bits.
-pub fn parts_f32(b: u32) -> Parts
-    ensures { λ r. ⌜ r ≡ partsOf 24 8 b ⌝ }
-{
-    Parts {
-        negative: b >> 31 == 1,
-        exponent: ((b >> 23) & 0xff) as u64,
-        fraction: (b & 0x7f_ffff) as u64,
-    }
-}
-
-// The three fields of an f16's bits.
-pub fn parts_f16(b: u16) -> Parts
-    ensures { λ r. ⌜ r ≡ partsOf 11 5 b ⌝ }
-{
-    Parts {
-        negative: b >> 15 == 1,
-        exponent: ((b >> 10) & 0x1f) as u64,
-        fraction: (b & 0x3ff) as u64,
-    }
 }
 
 // The magnitude n × 2^exponent with the highest bit of n moved to the 53rd place.
@@ -127,51 +77,13 @@ fn infinite_or_nan(negative: bool, fraction: u64, nan: u64) -> Float
 pub fn read_f64(b: u64) -> Float
     ensures { λ r. ⌜ r ≡ floatOf f64 b ⌝ }
 {
-    let parts = parts_f64(b);
+    let parts = float_fields::parts_f64(b);
     let exponent = parts.exponent;
     let fraction = parts.fraction;
     match exponent {
         0 => finite(parts.negative, fraction, 0),
         1..=2046 => finite(parts.negative, 0x10_0000_0000_0000 + fraction, exponent - 1),
         2047.. => infinite_or_nan(parts.negative, fraction, fraction),
-    }
-}
-
-// An f32's fields, which are their own.
-pub fn widen_f32(b: u32) -> Widened
-    ensures { λ r. ⌜ r ≡ widenedOf 24 8 925 b ⌝ }
-{
-    let parts = parts_f32(b);
-    Widened {
-        negative: parts.negative,
-        exponent: parts.exponent,
-        fraction: parts.fraction,
-        spacing: 925,
-    }
-}
-
-// The exponent field of an f16 as that of an f32.
-fn widen_exponent_f16(exponent: u64) -> u64
-    requires { ⌜ exponent ≤ 31 ⌝ }
-    ensures { λ r. ⌜ r ≡ widenedField 5 112 exponent ⌝ }
-{
-    match exponent {
-        0 => 0,
-        1..=30 => exponent + 112,
-        31.. => 255,
-    }
-}
-
-// An f16's fields as those of an f32.
-pub fn widen_f16(b: u16) -> Widened
-    ensures { λ r. ⌜ r ≡ widenedOf 11 5 1050 b ⌝ }
-{
-    let parts = parts_f16(b);
-    Widened {
-        negative: parts.negative,
-        exponent: widen_exponent_f16(parts.exponent),
-        fraction: parts.fraction << 13,
-        spacing: 1037,
     }
 }
 
@@ -199,14 +111,14 @@ pub fn read_widened(f: Widened) -> Float
 pub fn read_f32(b: u32) -> Float
     ensures { λ r. ⌜ r ≡ floatOf f32 b ⌝ }
 {
-    read_widened(widen_f32(b))
+    read_widened(float_fields::widen_f32(b))
 }
 
 // An f16's bits as an element.
 pub fn read_f16(b: u16) -> Float
     ensures { λ r. ⌜ r ≡ floatOf f16 b ⌝ }
 {
-    read_widened(widen_f16(b))
+    read_widened(float_fields::widen_f16(b))
 }
 
 // The bits below the sign of a finite magnitude as an f64.
@@ -217,20 +129,12 @@ pub fn finite_bits(x: Scaled) -> u64
     (x.exponent << 52) + x.significand
 }
 
-// The sign's bit at a place.
-pub fn sign_bit(negative: bool, place: u32) -> u64
-    requires { ⌜ place < 64 ⌝ }
-    ensures { λ r. ⌜ r ≡ cond negative (2 ^ place) 0 ⌝ }
-{
-    (negative as u64) << place
-}
-
 // The f64 of an element.
 pub fn write_f64(x: Float) -> u64
     requires { ⌜ CanonicalClass (x .class) ⌝ }
     ensures { λ r. ⌜ r ≡ f64Of x ⌝ }
 {
-    let sign = sign_bit(x.negative, 63);
+    let sign = float_fields::sign_bit(x.negative, 63);
     let class = x.class;
     match class {
         Class::Finite(magnitude) => sign + finite_bits(magnitude),

@@ -56,7 +56,7 @@ pub fn round_with_mode_f64(b: u64, mode: RoundingMode) -> Rounded
     let rounded = whole.magnitude;
     let ternary = whole.ternary;
     Rounded {
-        bits: floats::sign_bit(negative, 63) + floats::finite_bits(rounded),
+        bits: float_fields::sign_bit(negative, 63) + floats::finite_bits(rounded),
         ternary: ternary,
     }
 }
@@ -80,7 +80,7 @@ fn round_narrower(b: u64, x: Float, p: u32, w: u32, s: u64, mode: RoundingMode) 
     let ternary = whole.ternary;
     let written = narrowing::narrow_magnitude(rounded, p, s, mode, negative);
     Rounded {
-        bits: floats::sign_bit(negative, w + p - 1) + written.bits,
+        bits: float_fields::sign_bit(negative, w + p - 1) + written.bits,
         ternary: ternary,
     }
 }

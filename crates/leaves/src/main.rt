@@ -76,7 +76,7 @@ fn bytes(s: &mut [u8], x: u64)
 // ---- float parts
 
 fn parts_64(b: u64) {
-    let p = floats::parts_f64(b);
+    let p = float_fields::parts_f64(b);
     text(b"parts_f64");
     number(b, 16);
     sign(p.negative);
@@ -86,7 +86,7 @@ fn parts_64(b: u64) {
 }
 
 fn parts_32(b: u32) {
-    let p = floats::parts_f32(b);
+    let p = float_fields::parts_f32(b);
     text(b"parts_f32");
     number(wide(b), 8);
     sign(p.negative);
@@ -96,7 +96,7 @@ fn parts_32(b: u32) {
 }
 
 fn parts_16(b: u16) {
-    let p = floats::parts_f16(b);
+    let p = float_fields::parts_f16(b);
     text(b"parts_f16");
     number(wide_16(b), 4);
     sign(p.negative);

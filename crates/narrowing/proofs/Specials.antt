@@ -24,7 +24,7 @@ use Rattle.floats.specs.declared.Class.{Class}
 use Rattle.floats.specs.declared.Class.the-variants.{Finite, Infinite, NotANumber}
 use Rattle.floats.specs.declared.Float.{Float}
 use Rattle.floats.proofs.Class.{the-type}
-use Rattle.floats.proofs.Signs.{signed-sum, signed-fits}
+use Rattle.float_fields.proofs.Signs.{signed-sum, signed-fits}
 use Rattle.float_range.specs.Range.{FormatBits}
 use Rattle.narrowing.specs.Fit.{Special, fitClass, fitFloat}
 

@@ -46,7 +46,7 @@ pub fn fit_rebiased(
 {
     if bits < first_past(p, w, s) {
         return Fit::Pattern {
-            pattern: floats::sign_bit(negative, w + p - 1) + rebias(bits, p, s),
+            pattern: float_fields::sign_bit(negative, w + p - 1) + rebias(bits, p, s),
             fared: counts::by_pick(ternary),
         };
     }

@@ -9,7 +9,7 @@ use Rattle.grid.specs.declared.Rounded.{Rounded}
 use Rattle.kinds.specs.Row.{floatOf}
 use Rattle.kinds.specs.declared.FloatFormat.{FloatFormat}
 use Rattle.answers.specs.declared.Fit.the-variants.{Pattern}
-use Rattle.floats.proofs.Signs.{signed-sum, signed-fits}
+use Rattle.float_fields.proofs.Signs.{signed-sum, signed-fits}
 use Rattle.integers.specs.Precision.{roundedBits}
 use Rattle.integers.proofs.Bounds.{pick-bits-lt}
 use Rattle.narrowing.specs.Format.{Narrower}

@@ -11,7 +11,7 @@ use Rattle.kinds.specs.declared.FloatFormat.{FloatFormat}
 use Rattle.counts.specs.declared.Fared.the-variants.{Exact}
 use Rattle.answers.specs.declared.Fit.the-variants.{Pattern}
 use Rattle.cast_spec.specs.Fit.{fitNumber}
-use Rattle.floats.proofs.Signs.{signed-sum, signed-fits}
+use Rattle.float_fields.proofs.Signs.{signed-sum, signed-fits}
 use Rattle.kinds.proofs.FloatRows.{double}
 use Rattle.conversions.proofs.Rows.{row-narrower}
 use Rattle.conversions.proofs.ToF64.{finite-to-f64}

@@ -4,8 +4,8 @@ use borrow.Author.Needs.{needs}
 use Rattle.kinds.specs.Row.{floatOf}
 use Rattle.kinds.specs.declared.FloatFormat.{FloatFormat}
 use Rattle.kinds.proofs.FloatRows.{double}
+use Rattle.float_fields.proofs.Widenings.{widened-fields}
 use Rattle.floats.specs.Form as form
-use Rattle.floats.proofs.Widenings.{widened-fields}
 use Rattle.element.proofs.FloatRows.{row-widens}
 use Rattle.element.proofs.read_float.Statement.{statement}
 use Rattle.element.proofs.read_float.Tie as tie

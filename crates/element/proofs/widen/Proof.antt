@@ -6,7 +6,7 @@ use Rattle.patterns.specs.Kind.{bits}
 use Rattle.kinds.specs.Row.{floatOf}
 use Rattle.kinds.specs.declared.FloatFormat.{FloatFormat}
 use Rattle.kinds.proofs.FloatRows.{half, single}
-use Rattle.floats.specs.Widened.{widenedOf}
+use Rattle.float_fields.specs.Widened.{widenedOf}
 use Rattle.element.proofs.widen.Statement.{statement}
 use Rattle.element.proofs.widen.Tie as tie
 

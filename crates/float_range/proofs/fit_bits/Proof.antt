@@ -4,7 +4,7 @@ use Prim.Native.Nat.{ℕ, _+_, _≤_, _<_}
 use native.Mathlib.Omega.{arith}
 use borrow.Author.Needs.{needs}
 use Rattle.answers.specs.declared.Fit.the-variants.{Pattern}
-use Rattle.floats.proofs.Signs.{signed-sum}
+use Rattle.float_fields.proofs.Signs.{signed-sum}
 use Rattle.float_range.proofs.Fits.{below-fits, bits-fit, overrun-fit}
 use Rattle.float_range.proofs.fit_bits.Statement.{statement}
 use Rattle.float_range.proofs.fit_bits.Tie as tie

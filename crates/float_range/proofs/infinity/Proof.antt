@@ -4,7 +4,7 @@ use Prim.Native.Nat.{_+_}
 use native.Mathlib.Omega.{arith}
 use borrow.Author.Needs.{needs}
 use Rattle.patterns.specs.Pattern.{withSign}
-use Rattle.floats.proofs.Signs.{signed-sum}
+use Rattle.float_fields.proofs.Signs.{signed-sum}
 use Rattle.float_range.proofs.Fits.{below-fits}
 use Rattle.float_range.proofs.infinity.Statement.{statement}
 use Rattle.float_range.proofs.infinity.Tie as tie

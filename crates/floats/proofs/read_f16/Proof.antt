@@ -1,6 +1,6 @@
 -- `floats::read_f16` meets its contract: what its fields as an f32's are read as.
 use borrow.Author.Needs.{needs}
-use Rattle.floats.proofs.Widenings.{f16-widens, widened-fields}
+use Rattle.float_fields.proofs.Widenings.{f16-widens, widened-fields}
 use Rattle.floats.proofs.read_f16.Statement.{statement}
 use Rattle.floats.proofs.read_f16.Tie as tie
 

@@ -1,6 +1,6 @@
 -- `floats::read_f32` meets its contract: what its fields as an f32's are read as.
 use borrow.Author.Needs.{needs}
-use Rattle.floats.proofs.Widenings.{f32-widens, widened-fields}
+use Rattle.float_fields.proofs.Widenings.{f32-widens, widened-fields}
 use Rattle.floats.proofs.read_f32.Statement.{statement}
 use Rattle.floats.proofs.read_f32.Tie as tie
 

@@ -3,7 +3,7 @@ use mathlib.Core.Path.{_∙_}
 use native.Mathlib.Omega.{arith}
 use lib.Dec.{lit<, lit≤}
 use borrow.Author.Needs.{needs}
-use Rattle.floats.proofs.Fields.{fraction-small, fraction-is}
+use Rattle.float_fields.proofs.Fields.{fraction-small, fraction-is}
 use Rattle.floats.proofs.Forms.{scaled-only, subnormal-form, normal-form, special-form, own-fraction}
 use Rattle.floats.proofs.read_f64.Statement.{statement}
 use Rattle.floats.proofs.read_f64.Tie as tie

@@ -8,9 +8,9 @@ use borrow.Author.Needs.{needs}
 use Rattle.grid.specs.Round.{ruleFor}
 use Rattle.grid.specs.declared.Rounded.{Rounded}
 use Rattle.patterns.specs.Pattern.{withSign}
+use Rattle.float_fields.proofs.Signs.{signed-sum, signed-fits}
 use Rattle.floats.specs.Form.{Canonical, CanonicalClass, finiteBits}
 use Rattle.floats.specs.declared.Float.{Float}
-use Rattle.floats.proofs.Signs.{signed-sum, signed-fits}
 use Rattle.floats.proofs.Values.{f64-formed, scaled-bits}
 use Rattle.integral.specs.declared.WholeMagnitude.{WholeMagnitude}
 use Rattle.integral.proofs.WholeFloats.{own-grid, rounded-pattern, stays, whole-canonical}

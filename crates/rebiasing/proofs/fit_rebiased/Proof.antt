@@ -6,7 +6,7 @@ use borrow.Author.Needs.{needs}
 use Rattle.patterns.specs.Float.{infBits}
 use Rattle.patterns.specs.Pattern.{withSign}
 use Rattle.answers.specs.declared.Fit.the-variants.{Pattern}
-use Rattle.floats.proofs.Signs.{signed-sum}
+use Rattle.float_fields.proofs.Signs.{signed-sum}
 use Rattle.float_range.proofs.Fits.{below-fits, bits-fit, overrun-fit}
 use Rattle.rebiasing.specs.Rebiased.{rebiased}
 use Rattle.rebiasing.proofs.Past.{below-past, from-past}

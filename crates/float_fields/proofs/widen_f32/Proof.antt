@@ -1,13 +1,13 @@
--- `floats::widen_f32` meets its contract: an f32's fields are their own.
+-- `float_fields::widen_f32` meets its contract: an f32's fields are their own.
 use mathlib.Core.Path.{sym}
 use native.Mathlib.Nat.{mul-one}
 use native.Mathlib.Omega.{arith}
 use lib.Dec.{lit<}
 use borrow.Author.Needs.{needs}
-use Rattle.floats.proofs.Fields.{exponent-is, field-le}
-use Rattle.floats.proofs.Widenings.{field-own, widened-parts}
-use Rattle.floats.proofs.widen_f32.Statement.{statement}
-use Rattle.floats.proofs.widen_f32.Tie as tie
+use Rattle.float_fields.proofs.Fields.{exponent-is, field-le}
+use Rattle.float_fields.proofs.Widenings.{field-own, widened-parts}
+use Rattle.float_fields.proofs.widen_f32.Statement.{statement}
+use Rattle.float_fields.proofs.widen_f32.Tie as tie
 
 returns : tie.Need-returns
 returns c =

@@ -10,8 +10,8 @@ use lib.Pow.{pow-pos, mod-pow-add, field, mod-mod-pow}
 use borrow.Author.Tests.{le-leb, lt-leb, eq-eqb, ne-eqb}
 use Rattle.grid.proofs.Neighbours.{cut, pow-twice-pred}
 use Rattle.patterns.specs.Float.{fieldMag, bitsMag, infBits}
-use Rattle.floats.specs.Parts.{fieldOf, fractionOf, partsOf}
-use Rattle.floats.specs.declared.Parts.{Parts}
+use Rattle.float_fields.specs.Parts.{fieldOf, fractionOf, partsOf}
+use Rattle.float_fields.specs.declared.Parts.{Parts}
 
 -- of a number below 2 t, the quotient by t is 1 exactly where the number is at least t
 pub sign-bit : (b t : ℕ) → b < 2 * t → eqb (b / t) 1 ≡ leb t b

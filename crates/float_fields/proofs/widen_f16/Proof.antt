@@ -1,12 +1,12 @@
--- `floats::widen_f16` meets its contract: its fields, by shifts.
+-- `float_fields::widen_f16` meets its contract: its fields, by shifts.
 use native.Mathlib.Omega.{arith}
 use lib.Dec.{lit<, lit≤}
 use lib.Pow.{shl-exact}
 use borrow.Author.Needs.{needs}
-use Rattle.floats.proofs.Fields.{exponent-is, field-le, fraction-small}
-use Rattle.floats.proofs.Widenings.{widened-parts}
-use Rattle.floats.proofs.widen_f16.Statement.{statement}
-use Rattle.floats.proofs.widen_f16.Tie as tie
+use Rattle.float_fields.proofs.Fields.{exponent-is, field-le, fraction-small}
+use Rattle.float_fields.proofs.Widenings.{widened-parts}
+use Rattle.float_fields.proofs.widen_f16.Statement.{statement}
+use Rattle.float_fields.proofs.widen_f16.Tie as tie
 
 widen-exponent-f16-requires : tie.Need-widen-exponent-f16-requires
 widen-exponent-f16-requires c κs = let b = c .before .args .b in let q = c .parts-f16 in omega (arith, exponent-is 11 5 b (q .ensures), field-le 11 5 b (lit< tt))

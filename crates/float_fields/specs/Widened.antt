@@ -2,8 +2,8 @@
 use mathlib.Core.Bool.{cond}
 use Prim.Native.Nat.{ℕ, _+_, _-_, _*_, _^_, _≤_, _<_}
 use lib.Dec.{eqb, leb}
-use Rattle.floats.specs.Parts.{fieldOf, fractionOf}
-use Rattle.floats.specs.declared.Widened.{Widened}
+use Rattle.float_fields.specs.Parts.{fieldOf, fractionOf}
+use Rattle.float_fields.specs.declared.Widened.{Widened}
 
 -- a field of w bits that counts from `start` in f32; 0 and the field of ones stay so
 abbrev pub widenedField : ℕ → ℕ → ℕ → ℕ

@@ -1,9 +1,9 @@
--- `floats::widen_exponent_f16` meets its contract: the field by its three ranges.
+-- `float_fields::widen_exponent_f16` meets its contract: the field by its three ranges.
 use native.Mathlib.Omega.{arith}
 use borrow.Author.Needs.{needs}
-use Rattle.floats.proofs.Widenings.{field-0, field-between, field-of-ones}
-use Rattle.floats.proofs.widen_exponent_f16.Statement.{statement}
-use Rattle.floats.proofs.widen_exponent_f16.Tie as tie
+use Rattle.float_fields.proofs.Widenings.{field-0, field-between, field-of-ones}
+use Rattle.float_fields.proofs.widen_exponent_f16.Statement.{statement}
+use Rattle.float_fields.proofs.widen_exponent_f16.Tie as tie
 
 returns : tie.Need-returns
 returns c = field-0 5 112 _ (c .match .keys1)

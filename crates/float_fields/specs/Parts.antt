@@ -1,7 +1,7 @@
 -- Internal: "Sign, exponent field and fraction": the fields of a float's bits, by quotients and remainders of powers of two.
 use Prim.Native.Nat.{ℕ, _+_, _-_, _/_, _%_, _^_}
 use lib.Dec.{leb}
-use Rattle.floats.specs.declared.Parts.{Parts}
+use Rattle.float_fields.specs.declared.Parts.{Parts}
 
 -- the field of w bits, over the p - 1 bits of the fraction
 abbrev pub fieldOf : ℕ → ℕ → ℕ → ℕ
