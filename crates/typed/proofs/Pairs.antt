@@ -14,8 +14,9 @@ use Rattle.patterns.specs.Kind.{f64}
 use Rattle.counts.specs.declared.Fared.{Fared}
 use Rattle.answers.specs.declared.Outcome.the-variants.{Stored}
 use Rattle.cast_spec.specs.Element.{outcomeOf}
-use Rattle.typed_values.proofs.Signed.{again}
-use Rattle.typed_values.specs.Bits.{f64Bits, f32Bits, i64Bits, u8Bits, i32Bits, u8Of, i32Of, f32Of}
+use Rattle.typed_patterns.proofs.Signed.{again}
+use Rattle.typed_values.specs.Bits.{f64Bits, f32Bits, i64Bits, u8Bits, i32Bits}
+use Rattle.typed_patterns.specs.Values.{u8Of, i32Of, f32Of}
 use Rattle.patterns.proofs.Integers.{no-integer-nan}
 use Rattle.typed_values.proofs.Nans.{Back, quiet, quiet-kept, bits-are-back}
 use Rattle.typed_values.proofs.Fits.{f64-fits, f32-fits, i64-fits, i32-fits, u8-fits}

@@ -28,7 +28,8 @@ use Rattle.answers.specs.declared.Lookup.the-variants.{Found}
 use Rattle.answers.specs.declared.Outcome.{Outcome}
 use Rattle.answers.specs.declared.Outcome.the-variants.{Stored, NanOrInf, OutOfRange, FloatOutOfRange}
 use Rattle.cast_spec.specs.Element.{Entry, Settings, matches, lookupOf, foundOr, ranged, beyond, converted, outcomeOf}
-use Rattle.typed_values.specs.Bits.{f32Bits, f32Of}
+use Rattle.typed_values.specs.Bits.{f32Bits}
+use Rattle.typed_patterns.specs.Values.{f32Of}
 use Rattle.typed_values.proofs.Nans.{Back, not-nan}
 
 -- ---- the f32 read from the pattern b has the bytes of b

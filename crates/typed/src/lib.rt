@@ -3,7 +3,8 @@ ghost use mathlib.Core.Path.{_≡_};
 ghost use mathlib.Core.List.{map};
 ghost use Prim.Native.Nat.{_<_, _^_};
 ghost use lib.ListN.{length};
-ghost use Rattle.typed_values.specs.Bits.{f64Bits, f32Bits, i64Bits, u8Bits, i32Bits, u8Of, i32Of, f32Of};
+ghost use Rattle.typed_values.specs.Bits.{f64Bits, f32Bits, i64Bits, u8Bits, i32Bits};
+ghost use Rattle.typed_patterns.specs.Values.{u8Of, i32Of, f32Of};
 ghost use Rattle.typed_entries.specs.Entries.{f64U8, f64I32, f32U8, f64F32, i64F32};
 ghost use Rattle.typed.specs.Typed.{TypedContract};
 ghost use Rattle.counts.specs.Tally.{Countable};
@@ -52,7 +53,7 @@ fn step_f64_u8(src: &[f64], dst: &mut [u8], s: State, f: Lookup, tally: &mut Tal
     let fit = steps::step_float_to_int(x, f, kinds::U8, rounding, range);
     if let Fit::Pattern { pattern, fared } = fit {
         counts::count(tally, fared);
-        dst[at] = typed_values::u8_of(pattern);
+        dst[at] = typed_patterns::u8_of(pattern);
         return typed_states::state_f64(src, at + 1, rounding, range);
     }
     let o = element::outcome(
@@ -110,7 +111,7 @@ fn step_f64_i32(src: &[f64], dst: &mut [i32], s: State, f: Lookup, tally: &mut T
     let fit = steps::step_float_to_int(x, f, kinds::I32, rounding, range);
     if let Fit::Pattern { pattern, fared } = fit {
         counts::count(tally, fared);
-        dst[at] = typed_values::i32_of(pattern);
+        dst[at] = typed_patterns::i32_of(pattern);
         return typed_states::state_f64(src, at + 1, rounding, range);
     }
     let o = element::outcome(
@@ -168,7 +169,7 @@ fn step_f32_u8(src: &[f32], dst: &mut [u8], s: State, f: Lookup, tally: &mut Tal
     let fit = steps::step_float_to_int(x, f, kinds::U8, rounding, range);
     if let Fit::Pattern { pattern, fared } = fit {
         counts::count(tally, fared);
-        dst[at] = typed_values::u8_of(pattern);
+        dst[at] = typed_patterns::u8_of(pattern);
         return typed_states::state_f32(src, at + 1, rounding, range);
     }
     let o = element::outcome(
@@ -226,7 +227,7 @@ fn step_f64_f32(src: &[f64], dst: &mut [f32], s: State, f: Lookup, tally: &mut T
     let fit = steps::step_float_to_float(x, f, kinds::F32, rounding, range);
     if let Fit::Pattern { pattern, fared } = fit {
         counts::count(tally, fared);
-        dst[at] = typed_values::f32_of(pattern);
+        dst[at] = typed_patterns::f32_of(pattern);
         return typed_states::state_f64(src, at + 1, rounding, range);
     }
     let o = element::outcome(
@@ -284,7 +285,7 @@ fn step_i64_f32(src: &[i64], dst: &mut [f32], s: State, f: Lookup, tally: &mut T
     let fit = steps::step_int_to_float(x, f, kinds::F32, rounding, range);
     if let Fit::Pattern { pattern, fared } = fit {
         counts::count(tally, fared);
-        dst[at] = typed_values::f32_of(pattern);
+        dst[at] = typed_patterns::f32_of(pattern);
         return typed_states::state_i64(src, at + 1, rounding, range);
     }
     let o = element::outcome(

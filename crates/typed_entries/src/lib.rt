@@ -50,7 +50,7 @@ pub struct EntryI64F32 {
 fn key_matches_f64(key: f64, x: u64) -> bool
     ensures { λ r. ⌜ r ≡ matches (valueOf (kindOf 9) x) (valueOf (kindOf 9) (f64Bits key)) ⌝ }
 {
-    let double = typed_values::f64_of(x);
+    let double = typed_patterns::f64_of(x);
     if double == key {
         return true;
     }
@@ -64,7 +64,7 @@ fn key_matches_f64(key: f64, x: u64) -> bool
 fn key_matches_f32(key: f32, x: u64) -> bool
     ensures { λ r. ⌜ r ≡ matches (valueOf (kindOf 8) (x % 2 ^ 32)) (valueOf (kindOf 8) (f32Bits key)) ⌝ }
 {
-    let single = typed_values::f32_of(x);
+    let single = typed_patterns::f32_of(x);
     if single == key {
         return true;
     }

@@ -1,12 +1,11 @@
 -- Floats as patterns: each has one below 2 to its format's bits, and what is read from that pattern has it again.
-use mathlib.Core.Bool.{Bool, true, false, not, cond, true≢false}
-use mathlib.Core.Path.{_≡_, refl, sym, ap, subst, _∙_}
-use Prim.Native.Nat.{ℕ, _*_, _%_, _≤_, _<_}
+use mathlib.Core.Bool.{Bool, true, false, not, cond}
+use mathlib.Core.Path.{_≡_, refl, sym, ap, subst}
+use Prim.Native.Nat.{_*_, _<_}
 use lib.Ieee.Compare.{differs-from-itself}
-use lib.Ieee.Bits.{ofBits-toBits, toBits-lt, toBits-ofBits, nanBits-is, nanBits-above}
+use lib.Ieee.Bits.{ofBits-toBits, toBits-lt, toBits-ofBits}
 use lib.Dec.{T, lit<}
-use lib.Ieee.{Float, Format, binary32, binary64, nan, inf, fin, fits, isNan, ne, hid, ones, top, ofBits, nanBits, toBits}
-use borrow.Author.Tests.{lt-ltb, le-ltb}
+use lib.Ieee.{Float, Format, binary32, binary64, nan, inf, fin, fits, isNan, ne, top, ofBits, toBits}
 use Rattle.typed_values.specs.Bits.{floatBits}
 
 -- a float that does not differ from itself is no NaN
@@ -45,16 +44,3 @@ module _ (f : Format) (x : Float) where
       go : (t : Bool) → fits f x ≡ t → toBits f (ofBits f (cond t (toBits f x) 0)) ≡ cond t (toBits f x) 0
       go true e = ap (toBits f) (ofBits-toBits f x (subst T (sym e) tt))
       go false e = toBits-ofBits f 0 (top-pos f) (zero-no-nan f)
-
--- ---- which patterns are a NaN's: those above an infinity's, without the sign's bit
-is-nan : (x : Float) → isNan x ≡ true → x ≡ nan
-unfolding isNan
-is-nan nan e = refl
-is-nan (inf s) e = absurd (true≢false (sym e))
-is-nan (fin s m x) e = absurd (true≢false (sym e))
-
-pub nan-pattern : (f : Format) (n : ℕ) → ones f * hid f < n % top f → nan ≡ ofBits f n
-nan-pattern f n h = sym (is-nan (ofBits f n) (sym (nanBits-is f n) ∙ nanBits-above f n ∙ lt-ltb (ones f * hid f) (n % top f) h))
-
-pub no-nan-pattern : (f : Format) (n : ℕ) → n % top f ≤ ones f * hid f → T (not (nanBits f n))
-no-nan-pattern f n h = let e : nanBits f n ≡ false = nanBits-above f n ∙ le-ltb (ones f * hid f) (n % top f) h in subst (λ (t : Bool). T (not t)) (sym e) tt

@@ -1,18 +1,17 @@
--- A signed number's bits, as the machine works them out: those of -1 - z, each turned over, where z lies below zero; and a signed number read from its bits. For any width.
+-- A signed number's bits, as the machine works them out: those of -1 - z, each turned over, where z lies below zero. For any width.
 use mathlib.Core.Bool.{Bool, true, false, cond, true≢false}
-use mathlib.Core.Path.{_≡_, refl, sym, ap, _∙_, subst}
-use Prim.Native.Nat.{ℕ, zero, suc, _+_, _-_, _%_, _^_, _≤_, _<_}
+use mathlib.Core.Path.{_≡_, sym, ap, _∙_, subst}
+use Prim.Native.Nat.{ℕ, suc, _+_, _-_, _%_, _^_, _≤_, _<_}
 use native.Mathlib.Omega.{arith}
-use native.Mathlib.Nat.{mod-eq-of-lt, mod-lt, zero-add}
-use lib.Dec.{T, ltb, lit<}
+use native.Mathlib.Nat.{mod-eq-of-lt}
+use lib.Dec.{T}
 use lib.IntN.{ℤ, pos, negsuc, _-ℤ_, natAbs}
 use lib.Signed.{ltZ, nonNeg}
 use mir.Val.{Fits, SFits, toZ, ofZ, bits, hbits}
-use mir.Syntax.{Width, w32, w64}
+use mir.Syntax.{Width, w64}
 use mir.ValLaws.{toZ-ofZ}
-use borrow.Author.Tests.{ltb-true, lt-ltb, le-ltb}
+use borrow.Author.Tests.{ltb-true, le-ltb}
 use Rattle.patterns.specs.Pattern.{lowBits}
-use Rattle.typed_values.specs.Bits.{i32Of}
 
 minus-one-less : (a : ℕ) → negsuc 0 -ℤ negsuc a ≡ pos a
 minus-one-less a =
@@ -56,39 +55,3 @@ module _ (w : Width) (halves : 2 ^ hbits w + 2 ^ hbits w ≡ 2 ^ bits w) (most :
         less = subst (λ (y : ℤ). natAbs y ≤ 2 ^ bits w - 1) (sym f) (omega (arith, h));
         low = ap (λ (y : ℤ). 2 ^ bits w - 1 - natAbs y) f ∙ sym (ap (λ (n : ℕ). 2 ^ bits w - 1 - n) k);
       }
-
--- ---- an i32 from its 32 bits
-less-from-minus-one : (m : ℕ) → negsuc 0 -ℤ pos m ≡ negsuc m
-less-from-minus-one zero = refl
-less-from-minus-one (suc m) = ap (λ (z : ℕ). negsuc (suc z)) (zero-add m)
-
-module _ (b : ℕ) where
-  abbrev n : ℕ
-  n = b % 2 ^ 32
-
-  pub upper : n < 2 ^ 31 → toZ w32 n ≡ i32Of b
-  upper h = toZ-ofZ w32 (pos n) (record { sfits = h }) ∙ sym (ap (λ (t : Bool). cond t (pos n) (negsuc (2 ^ 32 - 1 - n))) (lt-ltb n (2 ^ 31) h))
-
-  module _ (h : 2 ^ 31 ≤ n) where
-    small : 2 ^ 32 - 1 - n < 2 ^ 31
-    small = let l : n < 2 ^ 32 = mod-lt b (lit< tt) in omega arith
-
-    formed : negsuc 0 -ℤ toZ w32 (2 ^ 32 - 1 - n) ≡ negsuc (2 ^ 32 - 1 - n)
-    formed = ap (λ (z : ℤ). negsuc 0 -ℤ z) (toZ-ofZ w32 (pos (2 ^ 32 - 1 - n)) (record { sfits = small })) ∙ less-from-minus-one (2 ^ 32 - 1 - n)
-
-    pub lower-fits : SFits w32 (negsuc 0 -ℤ toZ w32 (2 ^ 32 - 1 - n))
-    lower-fits = subst (SFits w32) (sym formed) (record { sfits = small })
-
-    pub lower : toZ w32 (ofZ w32 (negsuc 0 -ℤ toZ w32 (2 ^ 32 - 1 - n))) ≡ i32Of b
-    lower = ap (λ (z : ℤ). toZ w32 (ofZ w32 z)) formed ∙ toZ-ofZ w32 (negsuc (2 ^ 32 - 1 - n)) (record { sfits = small }) ∙ sym (ap (λ (t : Bool). cond t (pos n) (negsuc (2 ^ 32 - 1 - n))) (le-ltb n (2 ^ 31) h))
-
-  -- and its bits are those
-  pub again : lowBits 32 (i32Of b) ≡ n
-  again = go (ltb n (2 ^ 31))
-    where
-      l : n < 2 ^ 32
-      l = mod-lt b (lit< tt)
-
-      go : (t : Bool) → lowBits 32 (cond t (pos n) (negsuc (2 ^ 32 - 1 - n))) ≡ n
-      go true = mod-eq-of-lt l
-      go false = let e : 2 ^ 32 - 1 - n < 2 ^ 32 = omega arith in ap (λ (z : ℕ). 2 ^ 32 - 1 - z) (mod-eq-of-lt e) ∙ omega (arith, l)

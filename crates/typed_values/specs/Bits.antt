@@ -1,12 +1,9 @@
--- To be believed: a typed value's pattern, and the value that a pattern's lowest bits are.
+-- To be believed: a typed value's pattern.
 use mathlib.Core.Bool.{cond}
-use Prim.Native.Nat.{ℕ, _-_, _%_, _^_}
-use lib.Dec.{ltb}
-use lib.Ieee.{Float, Format, binary32, binary64, fits, ofBits, toBits}
-use lib.IntN.{ℤ, pos, negsuc}
+use Prim.Native.Nat.{ℕ, _%_, _^_}
+use lib.Ieee.{Float, Format, binary32, binary64, fits, toBits}
+use lib.IntN.{ℤ}
 use Rattle.patterns.specs.Pattern.{lowBits}
-
--- ---- patterns
 
 -- A float of the language is one that fits its format. The language has one NaN and gives it no bits; `toBits` writes the quiet NaN for it: sign 0,
 -- of the fraction only the highest bit. A value that does not fit, which no program has, gets 0.
@@ -27,16 +24,3 @@ i32Bits = lowBits 32
 
 abbrev pub u8Bits : ℕ → ℕ
 u8Bits b = b % 2 ^ 8
-
--- ---- the value that a pattern's lowest bits are
-abbrev pub u8Of : ℕ → ℕ
-u8Of b = b % 2 ^ 8
-
-abbrev pub i32Of : ℕ → ℤ
-i32Of b = let low = b % 2 ^ 32 in cond (ltb low (2 ^ 31)) (pos low) (negsuc (2 ^ 32 - 1 - low))
-
-abbrev pub f32Of : ℕ → Float
-f32Of b = ofBits binary32 (b % 2 ^ 32)
-
-abbrev pub f64Of : ℕ → Float
-f64Of b = ofBits binary64 (b % 2 ^ 64)

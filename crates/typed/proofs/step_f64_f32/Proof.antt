@@ -4,7 +4,8 @@ use mathlib.Core.List.{map}
 use denote.Ref.{now}
 use borrow.Author.Needs.{needs}
 use Rattle.patterns.specs.Kind.{f64}
-use Rattle.typed_values.specs.Bits.{f32Of, f64Bits}
+use Rattle.typed_values.specs.Bits.{f64Bits}
+use Rattle.typed_patterns.specs.Values.{f32Of}
 use Rattle.kinds.proofs.Constants.{f32-row}
 use Rattle.floats.proofs.Values.{f64-formed, read-canonical}
 use Rattle.steps.proofs.Steps.{f64-to-float-steps}

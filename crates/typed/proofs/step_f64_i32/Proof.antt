@@ -7,7 +7,8 @@ use mir.Syntax.{w32}
 use denote.Ref.{now}
 use borrow.Author.Needs.{needs}
 use Rattle.patterns.specs.Kind.{f64}
-use Rattle.typed_values.specs.Bits.{i32Of, f64Bits}
+use Rattle.typed_values.specs.Bits.{f64Bits}
+use Rattle.typed_patterns.specs.Values.{i32Of}
 use Rattle.kinds.proofs.Constants.{i32-row}
 use Rattle.floats.proofs.Values.{f64-formed, read-canonical}
 use Rattle.steps.proofs.Steps.{float-to-integer-steps}

@@ -5,7 +5,8 @@ use mathlib.Core.List.{map}
 use denote.Ref.{now}
 use borrow.Author.Needs.{needs}
 use Rattle.patterns.specs.Kind.{f32}
-use Rattle.typed_values.specs.Bits.{f32Of, i64Bits}
+use Rattle.typed_values.specs.Bits.{i64Bits}
+use Rattle.typed_patterns.specs.Values.{f32Of}
 use Rattle.kinds.proofs.Constants.{f32-row}
 use Rattle.steps.proofs.Steps.{integer-steps}
 use Rattle.typed.proofs.Formats.{i64-pattern}

@@ -1,14 +1,14 @@
--- `typed_values::f64_of` meets its contract: a NaN, or the float of the bits.
+-- `typed_patterns::f64_of` meets its contract: a NaN, or the float of the bits.
 use mathlib.Core.Path.{_≡_, sym, ap, _∙_}
 use Prim.Native.Nat.{ℕ}
 use native.Mathlib.Nat.{mod-eq-of-lt}
 use lib.Ieee.{binary64, div, ofBits}
 use mir.Syntax.{w64}
 use mir.Val.{Fits}
-use Rattle.typed_values.specs.Bits.{f64Of}
-use Rattle.typed_values.proofs.f64_of.Statement.{statement}
-use Rattle.typed_values.proofs.f64_of.Tie as tie
-use Rattle.typed_values.proofs.Patterns.{nan-pattern, no-nan-pattern}
+use Rattle.typed_patterns.specs.Values.{f64Of}
+use Rattle.typed_patterns.proofs.f64_of.Statement.{statement}
+use Rattle.typed_patterns.proofs.f64_of.Tie as tie
+use Rattle.typed_patterns.proofs.NanPatterns.{nan-pattern, no-nan-pattern}
 
 -- a u64 is its own lowest 64 bits
 all-bits : {b : ℕ} → Fits w64 b → ofBits binary64 b ≡ f64Of b

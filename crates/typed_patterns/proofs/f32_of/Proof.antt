@@ -1,10 +1,10 @@
--- `typed_values::f32_of` meets its contract: a NaN, or the float of the bits.
+-- `typed_patterns::f32_of` meets its contract: a NaN, or the float of the bits.
 use Prim.Native.Nat.{_%_, _^_}
 use lib.Ieee.{binary32, div, ofBits}
 use borrow.Author.Needs.{needs}
-use Rattle.typed_values.proofs.f32_of.Tie as tie
-use Rattle.typed_values.proofs.f32_of.Statement.{statement}
-use Rattle.typed_values.proofs.Patterns.{nan-pattern, no-nan-pattern}
+use Rattle.typed_patterns.proofs.f32_of.Tie as tie
+use Rattle.typed_patterns.proofs.f32_of.Statement.{statement}
+use Rattle.typed_patterns.proofs.NanPatterns.{nan-pattern, no-nan-pattern}
 
 returns : tie.Need-returns
 unfolding div ofBits

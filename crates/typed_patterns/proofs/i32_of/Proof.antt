@@ -1,8 +1,8 @@
--- `typed_values::i32_of` meets its contract: by the highest of the 32 bits.
+-- `typed_patterns::i32_of` meets its contract: by the highest of the 32 bits.
 use borrow.Author.Needs.{needs}
-use Rattle.typed_values.proofs.i32_of.Statement.{statement}
-use Rattle.typed_values.proofs.Signed.{upper, lower-fits, lower}
-use Rattle.typed_values.proofs.i32_of.Tie as tie
+use Rattle.typed_patterns.proofs.i32_of.Statement.{statement}
+use Rattle.typed_patterns.proofs.Signed.{upper, lower-fits, lower}
+use Rattle.typed_patterns.proofs.i32_of.Tie as tie
 
 returns : tie.Need-returns
 returns c = upper (c .before .args .b) (c .if1 .taken)

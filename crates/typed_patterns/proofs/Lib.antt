@@ -1,0 +1,2 @@
+pub mod NanPatterns
+pub mod Signed
