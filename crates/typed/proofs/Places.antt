@@ -12,7 +12,7 @@ use Rattle.bytes_le.proofs.Sums.{length-toLe}
 use Rattle.bytes_le.proofs.Places.{first-place, next-place}
 use Rattle.cast_spec.specs.Element.{Entry}
 use Rattle.cast_spec.specs.Chunk.{entriesFrom}
-use Rattle.typed_states.proofs.States.{mapped-at}
+use Rattle.typed_sources.proofs.Sources.{mapped-at}
 use Rattle.typed.specs.Typed.{bytesOf}
 
 pub map-set : {X : Type 0} (f : X → ℕ) (xs : List X) (i : ℕ) (y : X) → map f (set xs i y) ≡ set (map f xs) i (f y)

@@ -23,7 +23,8 @@ use Rattle.steps.specs.Steps.{stepped}
 use Rattle.cast_spec.proofs.Filled.{outcome-filled}
 use Rattle.steps.proofs.Found.{found-outcome}
 use Rattle.typed_states.specs.declared.State.{State}
-use Rattle.typed_states.specs.States.{stopped, stateAt}
+use Rattle.typed_states.specs.States.{stopped}
+use Rattle.typed_sources.specs.Sources.{stateAt}
 use Rattle.typed.specs.Loop.{outcomeFor, nextState, storedIn, TalliedBy}
 
 -- the element of the state s, which the steps from one kind to the other take to the fit x, with the destination ds and the tally ts; and the state r after it

@@ -13,7 +13,8 @@ use Rattle.cast_spec.specs.Fit.{unmapped}
 use Rattle.cast_spec.specs.Element.{foundOr}
 use Rattle.cast_spec.specs.Chunk.{answerNext}
 use Rattle.typed_states.specs.declared.State.{State}
-use Rattle.typed_states.specs.States.{stateAt, stopped}
+use Rattle.typed_states.specs.States.{stopped}
+use Rattle.typed_sources.specs.Sources.{stateAt}
 
 -- ---- the destination after an outcome at the position i, where `of` reads a pattern as a value of the target
 abbrev pub storedIn : {D : Type 0} → (ℕ → D) → Outcome → List D → ℕ → List D

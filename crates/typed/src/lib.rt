@@ -54,7 +54,7 @@ fn step_f64_u8(src: &[f64], dst: &mut [u8], s: State, f: Lookup, tally: &mut Tal
     if let Fit::Pattern { pattern, fared } = fit {
         counts::count(tally, fared);
         dst[at] = typed_patterns::u8_of(pattern);
-        return typed_states::state_f64(src, at + 1, rounding, range);
+        return typed_sources::state_f64(src, at + 1, rounding, range);
     }
     let o = element::outcome(
         s.x,
@@ -75,7 +75,7 @@ pub fn convert_f64_to_u8(
 ) -> Reply
     ensures { λ r. ⌜ TypedContract 9 4 (map f64Bits (now (src .entry))) (map u8Bits (now (dst .entry))) (map f64U8 (now (entries .entry))) rounding range r (map u8Bits (now (dst .exit))) ⌝ }
 {
-    let mut s = typed_states::start_f64(src, dst.len(), CODE_U8, rounding, range);
+    let mut s = typed_sources::start_f64(src, dst.len(), CODE_U8, rounding, range);
     let mut tally = counts::no_tally();
     while s.more {
         let f = typed_entries::lookup_f64_u8(entries, s.x);
@@ -112,7 +112,7 @@ fn step_f64_i32(src: &[f64], dst: &mut [i32], s: State, f: Lookup, tally: &mut T
     if let Fit::Pattern { pattern, fared } = fit {
         counts::count(tally, fared);
         dst[at] = typed_patterns::i32_of(pattern);
-        return typed_states::state_f64(src, at + 1, rounding, range);
+        return typed_sources::state_f64(src, at + 1, rounding, range);
     }
     let o = element::outcome(
         s.x,
@@ -133,7 +133,7 @@ pub fn convert_f64_to_i32(
 ) -> Reply
     ensures { λ r. ⌜ TypedContract 9 2 (map f64Bits (now (src .entry))) (map i32Bits (now (dst .entry))) (map f64I32 (now (entries .entry))) rounding range r (map i32Bits (now (dst .exit))) ⌝ }
 {
-    let mut s = typed_states::start_f64(src, dst.len(), CODE_I32, rounding, range);
+    let mut s = typed_sources::start_f64(src, dst.len(), CODE_I32, rounding, range);
     let mut tally = counts::no_tally();
     while s.more {
         let f = typed_entries::lookup_f64_i32(entries, s.x);
@@ -170,7 +170,7 @@ fn step_f32_u8(src: &[f32], dst: &mut [u8], s: State, f: Lookup, tally: &mut Tal
     if let Fit::Pattern { pattern, fared } = fit {
         counts::count(tally, fared);
         dst[at] = typed_patterns::u8_of(pattern);
-        return typed_states::state_f32(src, at + 1, rounding, range);
+        return typed_sources::state_f32(src, at + 1, rounding, range);
     }
     let o = element::outcome(
         s.x,
@@ -191,7 +191,7 @@ pub fn convert_f32_to_u8(
 ) -> Reply
     ensures { λ r. ⌜ TypedContract 8 4 (map f32Bits (now (src .entry))) (map u8Bits (now (dst .entry))) (map f32U8 (now (entries .entry))) rounding range r (map u8Bits (now (dst .exit))) ⌝ }
 {
-    let mut s = typed_states::start_f32(src, dst.len(), CODE_U8, rounding, range);
+    let mut s = typed_sources::start_f32(src, dst.len(), CODE_U8, rounding, range);
     let mut tally = counts::no_tally();
     while s.more {
         let f = typed_entries::lookup_f32_u8(entries, s.x);
@@ -228,7 +228,7 @@ fn step_f64_f32(src: &[f64], dst: &mut [f32], s: State, f: Lookup, tally: &mut T
     if let Fit::Pattern { pattern, fared } = fit {
         counts::count(tally, fared);
         dst[at] = typed_patterns::f32_of(pattern);
-        return typed_states::state_f64(src, at + 1, rounding, range);
+        return typed_sources::state_f64(src, at + 1, rounding, range);
     }
     let o = element::outcome(
         s.x,
@@ -249,7 +249,7 @@ pub fn convert_f64_to_f32(
 ) -> Reply
     ensures { λ r. ⌜ TypedContract 9 8 (map f64Bits (now (src .entry))) (map f32Bits (now (dst .entry))) (map f64F32 (now (entries .entry))) rounding range r (map f32Bits (now (dst .exit))) ⌝ }
 {
-    let mut s = typed_states::start_f64(src, dst.len(), CODE_F32, rounding, range);
+    let mut s = typed_sources::start_f64(src, dst.len(), CODE_F32, rounding, range);
     let mut tally = counts::no_tally();
     while s.more {
         let f = typed_entries::lookup_f64_f32(entries, s.x);
@@ -286,7 +286,7 @@ fn step_i64_f32(src: &[i64], dst: &mut [f32], s: State, f: Lookup, tally: &mut T
     if let Fit::Pattern { pattern, fared } = fit {
         counts::count(tally, fared);
         dst[at] = typed_patterns::f32_of(pattern);
-        return typed_states::state_i64(src, at + 1, rounding, range);
+        return typed_sources::state_i64(src, at + 1, rounding, range);
     }
     let o = element::outcome(
         s.x,
@@ -307,7 +307,7 @@ pub fn convert_i64_to_f32(
 ) -> Reply
     ensures { λ r. ⌜ TypedContract 3 8 (map i64Bits (now (src .entry))) (map f32Bits (now (dst .entry))) (map i64F32 (now (entries .entry))) rounding range r (map f32Bits (now (dst .exit))) ⌝ }
 {
-    let mut s = typed_states::start_i64(src, dst.len(), CODE_F32, rounding, range);
+    let mut s = typed_sources::start_i64(src, dst.len(), CODE_F32, rounding, range);
     let mut tally = counts::no_tally();
     while s.more {
         let f = typed_entries::lookup_i64_f32(entries, s.x);

@@ -1,19 +1,15 @@
--- The state after the checks, at a position and at the start is the one that the loop's definitions say.
-use mathlib.Core.Bool.{Bool, true, false, cond, _&&_}
-use mathlib.Core.Path.{_≡_, refl, sym, ap, ap₂, subst, _∙_}
-use mathlib.Core.List.{List, [], _∷_, map}
-use Prim.Native.Nat.{ℕ, zero, suc, _≤_, _<_}
-use native.Mathlib.Nat.{not-suc-le-zero, le-of-suc-le-suc}
+-- The state after the checks is the one that the loop's definitions say.
+use mathlib.Core.Bool.{true, false, _&&_}
+use mathlib.Core.Path.{_≡_, ap₂, _∙_}
+use Prim.Native.Nat.{ℕ}
 use lib.Dec.{ltb}
-use lib.ListN.{length, getD, length-map}
-use borrow.Author.Tests.{lt-ltb, le-ltb, eq-eqb, ne-eqb}
+use borrow.Author.Tests.{eq-eqb, ne-eqb}
 use Rattle.grid.specs.declared.RoundingMode.{RoundingMode}
 use Rattle.codes.specs.Codes.{roundingOf, rangeOf, wrapBarred}
 use Rattle.codes.specs.declared.OutOfRangeMode.{OutOfRangeMode}
 use Rattle.answers.specs.declared.Answer.{Answer}
 use Rattle.answers.specs.declared.Answer.the-variants as A
-use Rattle.typed_states.specs.declared.State.{State}
-use Rattle.typed_states.specs.States.{going, stopped, stateAt, checkOf, startOf}
+use Rattle.typed_states.specs.States.{going, stopped, checkOf}
 
 -- ---- the checks of the codes `rounding` and `range`, which stand for rule and choice
 module _ (n m to rounding range : ℕ) (rule : RoundingMode) (choice : OutOfRangeMode) (u : rule ≡ roundingOf rounding) (v : choice ≡ rangeOf range) where
@@ -33,37 +29,3 @@ module _ (n m to rounding range : ℕ) (rule : RoundingMode) (choice : OutOfRang
 
       pub checks-pass : n ≡ m → going rule choice 0 0 ≡ checkOf n m to rounding range
       checks-pass h = ap₂ (λ (x : RoundingMode) (y : OutOfRangeMode). going x y 0 0) u v ∙ simp (listed, permitted, eq-eqb n m h)
-
--- ---- the state at a position of elements whose patterns `bits` gives
-pub mapped-at : {X : Type 0} (bits : X → ℕ) (xs : List X) (i : ℕ) (d : X) → i < length xs → bits (getD xs i d) ≡ getD (map bits xs) i 0
-mapped-at bits [] i d h = absurd (not-suc-le-zero h)
-mapped-at bits (x ∷ xs) zero d h = refl
-mapped-at bits (x ∷ xs) (suc i) d h = mapped-at bits xs i d (le-of-suc-le-suc h)
-
-module _ {X : Type 0} (bits : X → ℕ) (xs : List X) where
-  module _ (rule : RoundingMode) (choice : OutOfRangeMode) (i : ℕ) where
-    at-test : {t : Bool} → t ≡ ltb i (length (map bits xs)) → cond t (going rule choice i (getD (map bits xs) i 0)) (stopped rule choice i A.Converted) ≡ stateAt rule choice (map bits xs) i
-    at-test e = ap (λ (b : Bool). cond b (going rule choice i (getD (map bits xs) i 0)) (stopped rule choice i A.Converted)) e
-
-    pub within : (b : ℕ) (d : X) → i < length xs → b ≡ bits (getD xs i d) → going rule choice i b ≡ stateAt rule choice (map bits xs) i
-    within b d h e = ap (going rule choice i) (e ∙ mapped-at bits xs i d h) ∙ at-test (sym (lt-ltb i (length (map bits xs)) (subst (λ (n : ℕ). i < n) (sym (length-map xs bits)) h)))
-
-    pub past : length xs ≤ i → stopped rule choice i A.Converted ≡ stateAt rule choice (map bits xs) i
-    past h = at-test (sym (le-ltb i (length (map bits xs)) (subst (λ (n : ℕ). n ≤ i) (sym (length-map xs bits)) h)))
-
-  -- ---- the start, after the checks have left the state s
-  module _ (m to rounding range : ℕ) (s : State) (e : s ≡ checkOf (length xs) m to rounding range) where
-    checked : s ≡ checkOf (length (map bits xs)) m to rounding range
-    checked = e ∙ ap (λ (n : ℕ). checkOf n m to rounding range) (sym (length-map xs bits))
-
-    started : startOf (map bits xs) m to rounding range ≡ cond (s .more) (stateAt (s .rounding) (s .range) (map bits xs) 0) s
-    started = ap (λ (z : State). cond (z .more) (stateAt (z .rounding) (z .range) (map bits xs) 0) z) (sym checked)
-
-    by-test : {t : Bool} → s .more ≡ t → cond t (stateAt (s .rounding) (s .range) (map bits xs) 0) s ≡ startOf (map bits xs) m to rounding range
-    by-test h = sym (started ∙ ap (λ (b : Bool). cond b (stateAt (s .rounding) (s .range) (map bits xs) 0) s) h)
-
-    pub starts : s .more ≡ true → (r : State) → r ≡ stateAt (s .rounding) (s .range) (map bits xs) 0 → r ≡ startOf (map bits xs) m to rounding range
-    starts h r f = f ∙ by-test h
-
-    pub refuses-start : s .more ≡ false → s ≡ startOf (map bits xs) m to rounding range
-    refuses-start h = by-test h

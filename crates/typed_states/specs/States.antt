@@ -1,9 +1,7 @@
--- Internal: the state of a typed call's loop, over patterns.
+-- Internal: the state of a typed call's loop, whatever the source.
 use mathlib.Core.Bool.{true, false, cond, _&&_}
-use mathlib.Core.List.{List}
 use Prim.Native.Nat.{ℕ}
 use lib.Dec.{ltb, eqb}
-use lib.ListN.{length, getD}
 use Rattle.grid.specs.declared.RoundingMode.{RoundingMode}
 use Rattle.codes.specs.Codes.{roundingOf, rangeOf, wrapBarred}
 use Rattle.codes.specs.declared.OutOfRangeMode.{OutOfRangeMode}
@@ -19,9 +17,6 @@ module _ (rule : RoundingMode) (range : OutOfRangeMode) where
   abbrev pub stopped : ℕ → Answer → State
   stopped i a = record { more = false; at = i; x = 0; answer = a; rounding = rule; range = range }
 
-  abbrev pub stateAt : List ℕ → ℕ → State
-  stateAt ps i = cond (ltb i (length ps)) (going i (getD ps i 0)) (stopped i A.Converted)
-
 -- the checks of n source elements and m destination elements of the kind `to`: 1, then 8, then 4
 abbrev pub checkOf : ℕ → ℕ → ℕ → ℕ → ℕ → State
 checkOf n m to rounding range = cond (ltb rounding 5 && ltb range 3)
@@ -29,6 +24,3 @@ checkOf n m to rounding range = cond (ltb rounding 5 && ltb range 3)
     (stopped (roundingOf rounding) (rangeOf range) 0 A.BarredWrap)
     (cond (eqb n m) (going (roundingOf rounding) (rangeOf range) 0 0) (stopped (roundingOf rounding) (rangeOf range) 0 (A.LengthMismatch n m))))
     (stopped (roundingOf rounding) (rangeOf range) 0 A.UnknownCode)
-
-abbrev pub startOf : List ℕ → ℕ → ℕ → ℕ → ℕ → State
-startOf ps m to rounding range = let s = checkOf (length ps) m to rounding range in cond (s .more) (stateAt (s .rounding) (s .range) ps 0) s

@@ -1,10 +1,8 @@
-// The state of a typed call's loop: after the checks, at an element, and at the end.
+// The state of a typed call's loop, whatever the source: after the checks, at an element's pattern, and at the end.
 ghost use mathlib.Core.Path.{_≡_};
-ghost use mathlib.Core.List.{map};
 ghost use Rattle.cast_spec.specs.Chunk.{answerNext};
-ghost use Rattle.typed_values.specs.Bits.{f64Bits, f32Bits, i64Bits};
 ghost use Rattle.counts.specs.Counts.{countsIn};
-ghost use Rattle.typed_states.specs.States.{checkOf, stateAt, startOf, going, stopped};
+ghost use Rattle.typed_states.specs.States.{checkOf, going, stopped};
 use answers::Answer;
 use answers::Outcome;
 use answers::Reply;
@@ -23,10 +21,8 @@ pub struct State {
     pub range: OutOfRangeMode,
 }
 
-// ---- whatever the source
-
 // The element at a position, of the pattern x, is to be converted.
-fn go(at: usize, x: u64, rounding: RoundingMode, range: OutOfRangeMode) -> State
+pub fn go(at: usize, x: u64, rounding: RoundingMode, range: OutOfRangeMode) -> State
     ensures { λ r. ⌜ r ≡ going rounding range at x ⌝ }
 {
     State {
@@ -40,7 +36,7 @@ fn go(at: usize, x: u64, rounding: RoundingMode, range: OutOfRangeMode) -> State
 }
 
 // The loop is over, with an answer.
-fn stop(at: usize, answer: Answer, rounding: RoundingMode, range: OutOfRangeMode) -> State
+pub fn stop(at: usize, answer: Answer, rounding: RoundingMode, range: OutOfRangeMode) -> State
     ensures { λ r. ⌜ r ≡ stopped rounding range at answer ⌝ }
 {
     State {
@@ -54,7 +50,7 @@ fn stop(at: usize, answer: Answer, rounding: RoundingMode, range: OutOfRangeMode
 }
 
 // The checks before the elements, of a target of the kind `to`: the codes, wrap with a float, then the counts. `more` says that they pass.
-fn check(n: usize, m: usize, to: u8, rounding: u8, range: u8) -> State
+pub fn check(n: usize, m: usize, to: u8, rounding: u8, range: u8) -> State
     ensures { λ r. ⌜ r ≡ checkOf n m to rounding range ⌝ }
 {
     let rounding_mode = codes::rounding_of(rounding);
@@ -93,75 +89,4 @@ pub fn reply_of(s: State, tally: Tally) -> Reply
         answer: answer,
         counts: counts::counts_of(tally),
     }
-}
-
-// ---- sources
-
-// The state at a position of f64 elements.
-pub fn state_f64(src: &[f64], at: usize, rounding: RoundingMode, range: OutOfRangeMode) -> State
-    ensures { λ r. ⌜ r ≡ stateAt rounding range (map f64Bits (now (src .entry))) at ⌝ }
-{
-    if at < src.len() {
-        return go(at, typed_values::bits_f64(src[at]), rounding, range);
-    }
-    stop(at, Answer::Converted, rounding, range)
-}
-
-// The checks of a target of the kind `to`, and the state at the first element.
-pub fn start_f64(src: &[f64], room: usize, to: u8, rounding: u8, range: u8) -> State
-    ensures { λ r. ⌜ r ≡ startOf (map f64Bits (now (src .entry))) room to rounding range ⌝ }
-{
-    let s = check(src.len(), room, to, rounding, range);
-    if s.more {
-        let rounding_mode = s.rounding;
-        let range_mode = s.range;
-        return state_f64(src, 0, rounding_mode, range_mode);
-    }
-    s
-}
-
-// The state at a position of f32 elements.
-pub fn state_f32(src: &[f32], at: usize, rounding: RoundingMode, range: OutOfRangeMode) -> State
-    ensures { λ r. ⌜ r ≡ stateAt rounding range (map f32Bits (now (src .entry))) at ⌝ }
-{
-    if at < src.len() {
-        return go(at, typed_values::bits_f32(src[at]), rounding, range);
-    }
-    stop(at, Answer::Converted, rounding, range)
-}
-
-// The checks of a target of the kind `to`, and the state at the first element.
-pub fn start_f32(src: &[f32], room: usize, to: u8, rounding: u8, range: u8) -> State
-    ensures { λ r. ⌜ r ≡ startOf (map f32Bits (now (src .entry))) room to rounding range ⌝ }
-{
-    let s = check(src.len(), room, to, rounding, range);
-    if s.more {
-        let rounding_mode = s.rounding;
-        let range_mode = s.range;
-        return state_f32(src, 0, rounding_mode, range_mode);
-    }
-    s
-}
-
-// The state at a position of i64 elements.
-pub fn state_i64(src: &[i64], at: usize, rounding: RoundingMode, range: OutOfRangeMode) -> State
-    ensures { λ r. ⌜ r ≡ stateAt rounding range (map i64Bits (now (src .entry))) at ⌝ }
-{
-    if at < src.len() {
-        return go(at, typed_values::bits_i64(src[at]), rounding, range);
-    }
-    stop(at, Answer::Converted, rounding, range)
-}
-
-// The checks of a target of the kind `to`, and the state at the first element.
-pub fn start_i64(src: &[i64], room: usize, to: u8, rounding: u8, range: u8) -> State
-    ensures { λ r. ⌜ r ≡ startOf (map i64Bits (now (src .entry))) room to rounding range ⌝ }
-{
-    let s = check(src.len(), room, to, rounding, range);
-    if s.more {
-        let rounding_mode = s.rounding;
-        let range_mode = s.range;
-        return state_i64(src, 0, rounding_mode, range_mode);
-    }
-    s
 }

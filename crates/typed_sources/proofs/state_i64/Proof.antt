@@ -1,4 +1,4 @@
--- `typed_states::state_i64` meets its contract: the element's pattern, or the end.
+-- `typed_sources::state_i64` meets its contract: the element's pattern, or the end.
 use mathlib.Core.Path.{ap, _∙_}
 use lib.IntN.{pos}
 use lib.ListN.{getD}
@@ -7,9 +7,9 @@ use mir.ValLaws.{toZ-ofZ}
 use denote.Ref.{now}
 use borrow.Author.Needs.{needs}
 use Rattle.typed_values.specs.Bits.{i64Bits}
-use Rattle.typed_states.proofs.States.{within, past}
-use Rattle.typed_states.proofs.state_i64.Statement.{statement}
-use Rattle.typed_states.proofs.state_i64.Tie as tie
+use Rattle.typed_sources.proofs.Sources.{within, past}
+use Rattle.typed_sources.proofs.state_i64.Statement.{statement}
+use Rattle.typed_sources.proofs.state_i64.Tie as tie
 
 returns : tie.Need-returns
 returns c =

@@ -1,11 +1,11 @@
--- `typed_states::state_f64` meets its contract: the element's pattern, or the end.
+-- `typed_sources::state_f64` meets its contract: the element's pattern, or the end.
 use mathlib.Core.Path.{_∙_}
 use denote.Ref.{now}
 use borrow.Author.Needs.{needs}
 use Rattle.typed_values.specs.Bits.{f64Bits}
-use Rattle.typed_states.proofs.States.{within, past}
-use Rattle.typed_states.proofs.state_f64.Statement.{statement}
-use Rattle.typed_states.proofs.state_f64.Tie as tie
+use Rattle.typed_sources.proofs.Sources.{within, past}
+use Rattle.typed_sources.proofs.state_f64.Statement.{statement}
+use Rattle.typed_sources.proofs.state_f64.Tie as tie
 
 returns : tie.Need-returns
 returns c =
