@@ -1,9 +1,7 @@
 pub mod Conversions
-pub mod Formats
 pub mod Pairs
 pub mod Places
 pub mod RefusedNan
-pub mod Steps
 pub mod Stored
 pub mod Threes
 pub mod Turns

@@ -1,25 +1,14 @@
 // The typed calls: slices of numbers converted element by element, with a slice of map entries, by the same steps as the chunk call.
-ghost use mathlib.Core.Path.{_≡_};
 ghost use mathlib.Core.List.{map};
-ghost use Prim.Native.Nat.{_<_, _^_};
-ghost use lib.ListN.{length};
 ghost use Rattle.typed_values.specs.Bits.{f64Bits, f32Bits, i64Bits, u8Bits, i32Bits};
-ghost use Rattle.typed_patterns.specs.Values.{u8Of, i32Of, f32Of};
 ghost use Rattle.typed_entries.specs.Entries.{f64U8, f64I32, f32U8, f64F32, i64F32};
 ghost use Rattle.typed.specs.Typed.{TypedContract};
-ghost use Rattle.counts.specs.Tally.{Countable};
-ghost use Rattle.typed.specs.Loop.{outcomeFor, nextState, storedIn, TalliedBy};
-use answers::Fit;
-use answers::Lookup;
 use answers::Reply;
-use counts::Tally;
-use kinds::Format;
 use typed_entries::Entry;
 use typed_entries::EntryF32U8;
 use typed_entries::EntryF64I32;
 use typed_entries::EntryF64U8;
 use typed_entries::EntryI64F32;
-use typed_states::State;
 
 // The kind codes of the targets.
 const CODE_I32: u8 = 2;
@@ -41,30 +30,6 @@ pub type ThreeEntryI64F32 = [EntryI64F32; 3];
 
 // ---- f64 to u8
 
-// One element: stored, and the state at the next; or refused.
-fn step_f64_u8(src: &[f64], dst: &mut [u8], s: State, f: Lookup, tally: &mut Tally) -> State
-    requires { ⌜ (s .x < 2 ^ 64) × (s .at < length (now src)) × (s .at < length (now dst)) × Countable (now tally) ⌝ }
-    ensures { λ r. ⌜ (r ≡ nextState (outcomeFor 9 4 s f) (map f64Bits (now (src .entry))) s) × (now (dst .exit) ≡ storedIn u8Of (outcomeFor 9 4 s f) (now (dst .entry)) (s .at)) × TalliedBy (outcomeFor 9 4 s f) (now (tally .entry)) (now (tally .exit)) ⌝ }
-{
-    let at = s.at;
-    let rounding = s.rounding;
-    let range = s.range;
-    let x = floats::read_f64(s.x);
-    let fit = steps::step_float_to_int(x, f, kinds::U8, rounding, range);
-    if let Fit::Pattern { pattern, fared } = fit {
-        counts::count(tally, fared);
-        dst[at] = typed_patterns::u8_of(pattern);
-        return typed_sources::state_f64(src, at + 1, rounding, range);
-    }
-    let o = element::outcome(
-        s.x,
-        fit,
-        Format::Float(kinds::F64),
-        Format::Integer(kinds::U8),
-    );
-    typed_states::refuse(s, o)
-}
-
 // Converts f64 elements to u8. A refusal 1 or 4 leaves the destination as it was; 5 and 6 leave it so from the refused element on.
 pub fn convert_f64_to_u8(
     src: &[f64],
@@ -79,7 +44,7 @@ pub fn convert_f64_to_u8(
     let mut tally = counts::no_tally();
     while s.more {
         let f = typed_entries::lookup_f64_u8(entries, s.x);
-        s = step_f64_u8(src, dst, s, f, &mut tally);
+        s = typed_steps::step_f64_u8(src, dst, s, f, &mut tally);
     }
     typed_states::reply_of(s, tally)
 }
@@ -99,30 +64,6 @@ pub fn convert_f64_to_u8_with3(
 
 // ---- f64 to i32
 
-// One element: stored, and the state at the next; or refused.
-fn step_f64_i32(src: &[f64], dst: &mut [i32], s: State, f: Lookup, tally: &mut Tally) -> State
-    requires { ⌜ (s .x < 2 ^ 64) × (s .at < length (now src)) × (s .at < length (now dst)) × Countable (now tally) ⌝ }
-    ensures { λ r. ⌜ (r ≡ nextState (outcomeFor 9 2 s f) (map f64Bits (now (src .entry))) s) × (now (dst .exit) ≡ storedIn i32Of (outcomeFor 9 2 s f) (now (dst .entry)) (s .at)) × TalliedBy (outcomeFor 9 2 s f) (now (tally .entry)) (now (tally .exit)) ⌝ }
-{
-    let at = s.at;
-    let rounding = s.rounding;
-    let range = s.range;
-    let x = floats::read_f64(s.x);
-    let fit = steps::step_float_to_int(x, f, kinds::I32, rounding, range);
-    if let Fit::Pattern { pattern, fared } = fit {
-        counts::count(tally, fared);
-        dst[at] = typed_patterns::i32_of(pattern);
-        return typed_sources::state_f64(src, at + 1, rounding, range);
-    }
-    let o = element::outcome(
-        s.x,
-        fit,
-        Format::Float(kinds::F64),
-        Format::Integer(kinds::I32),
-    );
-    typed_states::refuse(s, o)
-}
-
 // Converts f64 elements to i32. A refusal 1 or 4 leaves the destination as it was; 5 and 6 leave it so from the refused element on.
 pub fn convert_f64_to_i32(
     src: &[f64],
@@ -137,7 +78,7 @@ pub fn convert_f64_to_i32(
     let mut tally = counts::no_tally();
     while s.more {
         let f = typed_entries::lookup_f64_i32(entries, s.x);
-        s = step_f64_i32(src, dst, s, f, &mut tally);
+        s = typed_steps::step_f64_i32(src, dst, s, f, &mut tally);
     }
     typed_states::reply_of(s, tally)
 }
@@ -157,30 +98,6 @@ pub fn convert_f64_to_i32_with3(
 
 // ---- f32 to u8
 
-// One element: stored, and the state at the next; or refused.
-fn step_f32_u8(src: &[f32], dst: &mut [u8], s: State, f: Lookup, tally: &mut Tally) -> State
-    requires { ⌜ (s .x < 2 ^ 32) × (s .at < length (now src)) × (s .at < length (now dst)) × Countable (now tally) ⌝ }
-    ensures { λ r. ⌜ (r ≡ nextState (outcomeFor 8 4 s f) (map f32Bits (now (src .entry))) s) × (now (dst .exit) ≡ storedIn u8Of (outcomeFor 8 4 s f) (now (dst .entry)) (s .at)) × TalliedBy (outcomeFor 8 4 s f) (now (tally .entry)) (now (tally .exit)) ⌝ }
-{
-    let at = s.at;
-    let rounding = s.rounding;
-    let range = s.range;
-    let x = floats::read_f32(s.x as u32);
-    let fit = steps::step_float_to_int(x, f, kinds::U8, rounding, range);
-    if let Fit::Pattern { pattern, fared } = fit {
-        counts::count(tally, fared);
-        dst[at] = typed_patterns::u8_of(pattern);
-        return typed_sources::state_f32(src, at + 1, rounding, range);
-    }
-    let o = element::outcome(
-        s.x,
-        fit,
-        Format::Float(kinds::F32),
-        Format::Integer(kinds::U8),
-    );
-    typed_states::refuse(s, o)
-}
-
 // Converts f32 elements to u8. A refusal 1 or 4 leaves the destination as it was; 5 and 6 leave it so from the refused element on.
 pub fn convert_f32_to_u8(
     src: &[f32],
@@ -195,7 +112,7 @@ pub fn convert_f32_to_u8(
     let mut tally = counts::no_tally();
     while s.more {
         let f = typed_entries::lookup_f32_u8(entries, s.x);
-        s = step_f32_u8(src, dst, s, f, &mut tally);
+        s = typed_steps::step_f32_u8(src, dst, s, f, &mut tally);
     }
     typed_states::reply_of(s, tally)
 }
@@ -215,30 +132,6 @@ pub fn convert_f32_to_u8_with3(
 
 // ---- f64 to f32
 
-// One element: stored, and the state at the next; or refused.
-fn step_f64_f32(src: &[f64], dst: &mut [f32], s: State, f: Lookup, tally: &mut Tally) -> State
-    requires { ⌜ (s .x < 2 ^ 64) × (s .at < length (now src)) × (s .at < length (now dst)) × Countable (now tally) ⌝ }
-    ensures { λ r. ⌜ (r ≡ nextState (outcomeFor 9 8 s f) (map f64Bits (now (src .entry))) s) × (now (dst .exit) ≡ storedIn f32Of (outcomeFor 9 8 s f) (now (dst .entry)) (s .at)) × TalliedBy (outcomeFor 9 8 s f) (now (tally .entry)) (now (tally .exit)) ⌝ }
-{
-    let at = s.at;
-    let rounding = s.rounding;
-    let range = s.range;
-    let x = floats::read_f64(s.x);
-    let fit = steps::step_float_to_float(x, f, kinds::F32, rounding, range);
-    if let Fit::Pattern { pattern, fared } = fit {
-        counts::count(tally, fared);
-        dst[at] = typed_patterns::f32_of(pattern);
-        return typed_sources::state_f64(src, at + 1, rounding, range);
-    }
-    let o = element::outcome(
-        s.x,
-        fit,
-        Format::Float(kinds::F64),
-        Format::Float(kinds::F32),
-    );
-    typed_states::refuse(s, o)
-}
-
 // Converts f64 elements to f32. A refusal 1, 8 or 4 leaves the destination as it was; 7 leaves it so from the refused element on.
 pub fn convert_f64_to_f32(
     src: &[f64],
@@ -253,7 +146,7 @@ pub fn convert_f64_to_f32(
     let mut tally = counts::no_tally();
     while s.more {
         let f = typed_entries::lookup_f64_f32(entries, s.x);
-        s = step_f64_f32(src, dst, s, f, &mut tally);
+        s = typed_steps::step_f64_f32(src, dst, s, f, &mut tally);
     }
     typed_states::reply_of(s, tally)
 }
@@ -273,30 +166,6 @@ pub fn convert_f64_to_f32_with3(
 
 // ---- i64 to f32
 
-// One element: stored, and the state at the next; or refused.
-fn step_i64_f32(src: &[i64], dst: &mut [f32], s: State, f: Lookup, tally: &mut Tally) -> State
-    requires { ⌜ (s .x < 2 ^ 64) × (s .at < length (now src)) × (s .at < length (now dst)) × Countable (now tally) ⌝ }
-    ensures { λ r. ⌜ (r ≡ nextState (outcomeFor 3 8 s f) (map i64Bits (now (src .entry))) s) × (now (dst .exit) ≡ storedIn f32Of (outcomeFor 3 8 s f) (now (dst .entry)) (s .at)) × TalliedBy (outcomeFor 3 8 s f) (now (tally .entry)) (now (tally .exit)) ⌝ }
-{
-    let at = s.at;
-    let rounding = s.rounding;
-    let range = s.range;
-    let x = integers::int_magnitude(s.x, true, 64);
-    let fit = steps::step_int_to_float(x, f, kinds::F32, rounding, range);
-    if let Fit::Pattern { pattern, fared } = fit {
-        counts::count(tally, fared);
-        dst[at] = typed_patterns::f32_of(pattern);
-        return typed_sources::state_i64(src, at + 1, rounding, range);
-    }
-    let o = element::outcome(
-        s.x,
-        fit,
-        Format::Integer(kinds::I64),
-        Format::Float(kinds::F32),
-    );
-    typed_states::refuse(s, o)
-}
-
 // Converts i64 elements to f32. A refusal 1, 8 or 4 leaves the destination as it was; no element is refused.
 pub fn convert_i64_to_f32(
     src: &[i64],
@@ -311,7 +180,7 @@ pub fn convert_i64_to_f32(
     let mut tally = counts::no_tally();
     while s.more {
         let f = typed_entries::lookup_i64_f32(entries, s.x);
-        s = step_i64_f32(src, dst, s, f, &mut tally);
+        s = typed_steps::step_i64_f32(src, dst, s, f, &mut tally);
     }
     typed_states::reply_of(s, tally)
 }

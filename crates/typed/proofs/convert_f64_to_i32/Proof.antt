@@ -4,12 +4,12 @@ use denote.Triple.Spec.{tripleOf}
 use denote.Triple.Table.{entered, cited}
 use Rattle.typed_entries.proofs.lookup_f64_i32.Symbol as lookup
 use Rattle.typed_entries.proofs.lookup_f64_i32.Met as lookup-thm
-use Rattle.typed.proofs.step_f64_i32.Symbol as step
+use Rattle.typed_steps.proofs.step_f64_i32.Symbol as step
 use Rattle.typed.proofs.Conversions.{Start, NoTally, LookUp, Step, ReplyOf, typed-call-meets-contract}
 use Rattle.typed.proofs.Pairs.{f64-to-i32}
 use Rattle.typed_states.proofs.reply_of.Met as reply-thm
 use Rattle.typed_sources.proofs.start_f64.Symbol as start
-use Rattle.typed.proofs.step_f64_i32.Met as step-thm
+use Rattle.typed_steps.proofs.step_f64_i32.Met as step-thm
 use Rattle.typed.proofs.convert_f64_to_i32.Key.{name}
 use Rattle.typed.proofs.convert_f64_to_i32.Code as code
 use Rattle.typed_states.proofs.reply_of.Symbol as reply
@@ -28,5 +28,5 @@ convert-f64-to-i32-spec 𝓤 H 𝓜 𝓖 𝓡 =
     (cited 𝓤 H (Start f64-to-i32 𝓤 H (𝓖 .A)) 𝓜 𝓡 code.env start.name start.routine code.calls-typed-sources·start-f64 (start-thm.met 𝓤 H 𝓜 𝓖 𝓡))
     (cited 𝓤 H (NoTally f64-to-i32 𝓤 H (𝓖 .A)) 𝓜 𝓡 code.env tally.name tally.routine code.calls-counts·no-tally (tally-thm.met 𝓤 H 𝓜 𝓖 𝓡))
     (cited 𝓤 H (LookUp f64-to-i32 𝓤 H (𝓖 .A)) 𝓜 𝓡 code.env lookup.name lookup.routine code.calls-typed-entries·lookup-f64-i32 (lookup-thm.met 𝓤 H 𝓜 𝓖 𝓡))
-    (cited 𝓤 H (Step f64-to-i32 𝓤 H (𝓖 .A)) 𝓜 𝓡 code.env step.name step.routine code.calls-typed·step-f64-i32 (step-thm.met 𝓤 H 𝓜 𝓖 𝓡))
+    (cited 𝓤 H (Step f64-to-i32 𝓤 H (𝓖 .A)) 𝓜 𝓡 code.env step.name step.routine code.calls-typed-steps·step-f64-i32 (step-thm.met 𝓤 H 𝓜 𝓖 𝓡))
     (cited 𝓤 H (ReplyOf f64-to-i32 𝓤 H (𝓖 .A)) 𝓜 𝓡 code.env reply.name reply.routine code.calls-typed-states·reply-of (reply-thm.met 𝓤 H 𝓜 𝓖 𝓡)))

@@ -4,14 +4,14 @@ use denote.Triple.Spec.{tripleOf}
 use denote.Triple.Table.{entered, cited}
 use Rattle.typed_entries.proofs.lookup_f64_u8.Met as lookup-thm
 use Rattle.typed_entries.proofs.lookup_f64_u8.Symbol as lookup
-use Rattle.typed.proofs.step_f64_u8.Symbol as step
+use Rattle.typed_steps.proofs.step_f64_u8.Symbol as step
 use Rattle.typed.proofs.convert_f64_to_u8.Key.{name}
 use Rattle.typed.proofs.Conversions.{Start, NoTally, LookUp, Step, ReplyOf, typed-call-meets-contract}
 use Rattle.typed_states.proofs.reply_of.Met as reply-thm
 use Rattle.typed.proofs.convert_f64_to_u8 as convert
 use Rattle.typed.proofs.convert_f64_to_u8.Code as code
 use Rattle.typed_sources.proofs.start_f64.Symbol as start
-use Rattle.typed.proofs.step_f64_u8.Met as step-thm
+use Rattle.typed_steps.proofs.step_f64_u8.Met as step-thm
 use Rattle.typed_states.proofs.reply_of.Symbol as reply
 use Rattle.counts.proofs.no_tally.Met as tally-thm
 use Rattle.counts.proofs.no_tally.Symbol as tally
@@ -28,5 +28,5 @@ convert-f64-to-u8-spec 𝓤 H 𝓜 𝓖 𝓡 =
     (cited 𝓤 H (Start f64-to-u8 𝓤 H (𝓖 .A)) 𝓜 𝓡 code.env start.name start.routine code.calls-typed-sources·start-f64 (start-thm.met 𝓤 H 𝓜 𝓖 𝓡))
     (cited 𝓤 H (NoTally f64-to-u8 𝓤 H (𝓖 .A)) 𝓜 𝓡 code.env tally.name tally.routine code.calls-counts·no-tally (tally-thm.met 𝓤 H 𝓜 𝓖 𝓡))
     (cited 𝓤 H (LookUp f64-to-u8 𝓤 H (𝓖 .A)) 𝓜 𝓡 code.env lookup.name lookup.routine code.calls-typed-entries·lookup-f64-u8 (lookup-thm.met 𝓤 H 𝓜 𝓖 𝓡))
-    (cited 𝓤 H (Step f64-to-u8 𝓤 H (𝓖 .A)) 𝓜 𝓡 code.env step.name step.routine code.calls-typed·step-f64-u8 (step-thm.met 𝓤 H 𝓜 𝓖 𝓡))
+    (cited 𝓤 H (Step f64-to-u8 𝓤 H (𝓖 .A)) 𝓜 𝓡 code.env step.name step.routine code.calls-typed-steps·step-f64-u8 (step-thm.met 𝓤 H 𝓜 𝓖 𝓡))
     (cited 𝓤 H (ReplyOf f64-to-u8 𝓤 H (𝓖 .A)) 𝓜 𝓡 code.env reply.name reply.routine code.calls-typed-states·reply-of (reply-thm.met 𝓤 H 𝓜 𝓖 𝓡)))

@@ -25,7 +25,7 @@ use Rattle.steps.proofs.Found.{found-outcome}
 use Rattle.typed_states.specs.declared.State.{State}
 use Rattle.typed_states.specs.States.{stopped}
 use Rattle.typed_sources.specs.Sources.{stateAt}
-use Rattle.typed.specs.Loop.{outcomeFor, nextState, storedIn, TalliedBy}
+use Rattle.typed_steps.specs.Loop.{outcomeFor, nextState, storedIn, TalliedBy}
 
 -- the element of the state s, which the steps from one kind to the other take to the fit x, with the destination ds and the tally ts; and the state r after it
 module _ {D : Type 0} (of : ℕ → D) (ps : List ℕ) (ds : List D) (ts : List ℕ) (from to : ℕ) (s : State) (f : Lookup) (x : Fit) (e : x ≡ stepped f (kindOf from) (kindOf to) (s .rounding) (s .range) (s .x)) (r : State) where

@@ -1,4 +1,4 @@
--- `typed::step_f64_i32` meets its contract: the element is stored and counted, or refused.
+-- `typed_steps::step_f64_i32` meets its contract: the element is stored and counted, or refused.
 use mathlib.Core.Path.{_≡_, _∙_}
 use mathlib.Core.Bool.{true}
 use mathlib.Core.List.{map}
@@ -12,10 +12,10 @@ use Rattle.typed_patterns.specs.Values.{i32Of}
 use Rattle.kinds.proofs.Constants.{i32-row}
 use Rattle.floats.proofs.Values.{f64-formed, read-canonical}
 use Rattle.steps.proofs.Steps.{float-to-integer-steps}
-use Rattle.typed.proofs.Formats.{f64-pattern}
-use Rattle.typed.proofs.Steps.{stored, refused}
-use Rattle.typed.proofs.step_f64_i32.Statement.{statement}
-use Rattle.typed.proofs.step_f64_i32.Tie as tie
+use Rattle.typed_steps.proofs.Formats.{f64-pattern}
+use Rattle.typed_steps.proofs.Steps.{stored, refused}
+use Rattle.typed_steps.proofs.step_f64_i32.Statement.{statement}
+use Rattle.typed_steps.proofs.step_f64_i32.Tie as tie
 
 -- a signed number is read back from its bits as it was
 read-back : (c : tie.After-state-f64) → toZ w32 (ofZ w32 (c .before .i32-of .result)) ≡ c .before .i32-of .result

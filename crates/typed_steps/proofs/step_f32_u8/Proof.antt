@@ -1,4 +1,4 @@
--- `typed::step_f32_u8` meets its contract: the element is stored and counted, or refused.
+-- `typed_steps::step_f32_u8` meets its contract: the element is stored and counted, or refused.
 use mathlib.Core.Path.{_∙_}
 use mathlib.Core.Bool.{false}
 use mathlib.Core.List.{map}
@@ -10,10 +10,10 @@ use Rattle.typed_patterns.specs.Values.{u8Of}
 use Rattle.kinds.proofs.Constants.{u8-row}
 use Rattle.floats.proofs.Values.{f32-formed, read-canonical}
 use Rattle.steps.proofs.Steps.{float-to-integer-steps}
-use Rattle.typed.proofs.Formats.{f32-pattern}
-use Rattle.typed.proofs.Steps.{stored, refused}
-use Rattle.typed.proofs.step_f32_u8.Statement.{statement}
-use Rattle.typed.proofs.step_f32_u8.Tie as tie
+use Rattle.typed_steps.proofs.Formats.{f32-pattern}
+use Rattle.typed_steps.proofs.Steps.{stored, refused}
+use Rattle.typed_steps.proofs.step_f32_u8.Statement.{statement}
+use Rattle.typed_steps.proofs.step_f32_u8.Tie as tie
 
 step-float-to-int-requires : tie.Need-step-float-to-int-requires
 step-float-to-int-requires c κs = let t = c .before .before .before .before in (read-canonical f32 (t .args .s .x) (f32-formed (t .args .s .x)) (c .read-f32 .result) (c .read-f32 .ensures), u8-row)
