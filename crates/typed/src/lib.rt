@@ -146,7 +146,7 @@ pub fn convert_f64_to_f32(
     let mut tally = counts::no_tally();
     while s.more {
         let f = typed_entries::lookup_f64_f32(entries, s.x);
-        s = typed_steps::step_f64_f32(src, dst, s, f, &mut tally);
+        s = typed_float_steps::step_f64_f32(src, dst, s, f, &mut tally);
     }
     typed_states::reply_of(s, tally)
 }
@@ -180,7 +180,7 @@ pub fn convert_i64_to_f32(
     let mut tally = counts::no_tally();
     while s.more {
         let f = typed_entries::lookup_i64_f32(entries, s.x);
-        s = typed_steps::step_i64_f32(src, dst, s, f, &mut tally);
+        s = typed_float_steps::step_i64_f32(src, dst, s, f, &mut tally);
     }
     typed_states::reply_of(s, tally)
 }

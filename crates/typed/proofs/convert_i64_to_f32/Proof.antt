@@ -4,13 +4,13 @@ use denote.Triple.Spec.{tripleOf}
 use denote.Triple.Table.{entered, cited}
 use Rattle.typed_entries.proofs.lookup_i64_f32.Symbol as lookup
 use Rattle.typed_entries.proofs.lookup_i64_f32.Met as lookup-thm
-use Rattle.typed_steps.proofs.step_i64_f32.Met as step-thm
+use Rattle.typed_float_steps.proofs.step_i64_f32.Met as step-thm
 use Rattle.typed.proofs.convert_i64_to_f32 as convert
 use Rattle.typed_states.proofs.reply_of.Symbol as reply
 use Rattle.counts.proofs.no_tally.Met as tally-thm
 use Rattle.counts.proofs.no_tally.Symbol as tally
 use Rattle.typed.proofs.convert_i64_to_f32.Code as code
-use Rattle.typed_steps.proofs.step_i64_f32.Symbol as step
+use Rattle.typed_float_steps.proofs.step_i64_f32.Symbol as step
 use Rattle.typed.proofs.Pairs.{i64-to-f32}
 use Rattle.typed.proofs.Conversions.{Start, NoTally, LookUp, Step, ReplyOf, typed-call-meets-contract}
 use Rattle.typed_states.proofs.reply_of.Met as reply-thm
@@ -28,5 +28,5 @@ convert-i64-to-f32-spec 𝓤 H 𝓜 𝓖 𝓡 =
     (cited 𝓤 H (Start i64-to-f32 𝓤 H (𝓖 .A)) 𝓜 𝓡 code.env start.name start.routine code.calls-typed-sources·start-i64 (start-thm.met 𝓤 H 𝓜 𝓖 𝓡))
     (cited 𝓤 H (NoTally i64-to-f32 𝓤 H (𝓖 .A)) 𝓜 𝓡 code.env tally.name tally.routine code.calls-counts·no-tally (tally-thm.met 𝓤 H 𝓜 𝓖 𝓡))
     (cited 𝓤 H (LookUp i64-to-f32 𝓤 H (𝓖 .A)) 𝓜 𝓡 code.env lookup.name lookup.routine code.calls-typed-entries·lookup-i64-f32 (lookup-thm.met 𝓤 H 𝓜 𝓖 𝓡))
-    (cited 𝓤 H (Step i64-to-f32 𝓤 H (𝓖 .A)) 𝓜 𝓡 code.env step.name step.routine code.calls-typed-steps·step-i64-f32 (step-thm.met 𝓤 H 𝓜 𝓖 𝓡))
+    (cited 𝓤 H (Step i64-to-f32 𝓤 H (𝓖 .A)) 𝓜 𝓡 code.env step.name step.routine code.calls-typed-float-steps·step-i64-f32 (step-thm.met 𝓤 H 𝓜 𝓖 𝓡))
     (cited 𝓤 H (ReplyOf i64-to-f32 𝓤 H (𝓖 .A)) 𝓜 𝓡 code.env reply.name reply.routine code.calls-typed-states·reply-of (reply-thm.met 𝓤 H 𝓜 𝓖 𝓡)))

@@ -1,4 +1,4 @@
--- `typed_steps::step_f64_f32` meets its contract: the element is stored and counted, or refused.
+-- `typed_float_steps::step_f64_f32` meets its contract: the element is stored and counted, or refused.
 use mathlib.Core.Path.{_∙_}
 use mathlib.Core.List.{map}
 use denote.Ref.{now}
@@ -9,10 +9,10 @@ use Rattle.typed_patterns.specs.Values.{f32Of}
 use Rattle.kinds.proofs.Constants.{f32-row}
 use Rattle.floats.proofs.Values.{f64-formed, read-canonical}
 use Rattle.steps.proofs.Steps.{f64-to-float-steps}
 use Rattle.typed_steps.proofs.Formats.{f64-pattern}
 use Rattle.typed_steps.proofs.Steps.{stored, refused}
-use Rattle.typed_steps.proofs.step_f64_f32.Statement.{statement}
-use Rattle.typed_steps.proofs.step_f64_f32.Tie as tie
+use Rattle.typed_float_steps.proofs.step_f64_f32.Statement.{statement}
+use Rattle.typed_float_steps.proofs.step_f64_f32.Tie as tie
 
 step-float-to-float-requires : tie.Need-step-float-to-float-requires
 step-float-to-float-requires c κs = let t = c .before .before .before in (read-canonical f64 (t .args .s .x) (f64-formed (t .args .s .x) (t .pre .0)) (c .read-f64 .result) (c .read-f64 .ensures), f32-row)

@@ -1,4 +1,4 @@
--- `typed_steps::step_i64_f32` meets its contract: the element is stored and counted, or refused.
+-- `typed_float_steps::step_i64_f32` meets its contract: the element is stored and counted, or refused.
 use mathlib.Core.Path.{_∙_}
 use mathlib.Core.Bool.{true}
 use mathlib.Core.List.{map}
@@ -9,10 +9,10 @@ use Rattle.typed_values.specs.Bits.{i64Bits}
 use Rattle.typed_patterns.specs.Values.{f32Of}
 use Rattle.kinds.proofs.Constants.{f32-row}
 use Rattle.steps.proofs.Steps.{integer-steps}
 use Rattle.typed_steps.proofs.Formats.{i64-pattern}
 use Rattle.typed_steps.proofs.Steps.{stored, refused}
-use Rattle.typed_steps.proofs.step_i64_f32.Statement.{statement}
-use Rattle.typed_steps.proofs.step_i64_f32.Tie as tie
+use Rattle.typed_float_steps.proofs.step_i64_f32.Statement.{statement}
+use Rattle.typed_float_steps.proofs.step_i64_f32.Tie as tie
 
 returns : tie.Need-returns
 returns c =
