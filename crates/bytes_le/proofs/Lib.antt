@@ -3,5 +3,4 @@ pub mod Places
 pub mod Widths
 pub mod Unique
 pub mod Fetches
-pub mod Stores
 pub mod Witness

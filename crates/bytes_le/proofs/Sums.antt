@@ -1,8 +1,8 @@
--- The sum of bytes by places: one place up is 256 times as much, the bytes of a number sum to it, and those of two parts stand one behind the other.
+-- The sum of bytes by places: one place up is 256 times as much, and the bytes of a number sum to it.
 use mathlib.Core.Path.{_≡_, refl, sym, ap, _∙_}
 use mathlib.Core.List.{List, [], _∷_, _++_}
 use Prim.Native.Nat.{ℕ, zero, suc, _+_, _*_, _/_, _%_, _^_, _<_}
-use native.Mathlib.Nat.{mod-one, add-comm, mul-comm, mul-one, mul-assoc, one-le-pow, pow-suc, zero-add, zero-lt-suc, mod-eq-of-lt, div-one, div-div-eq-div-mul}
+use native.Mathlib.Nat.{mod-one, add-comm, mul-comm, mul-one, mul-assoc, one-le-pow, pow-suc, zero-lt-suc, mod-eq-of-lt}
 use native.Mathlib.Omega.{arith}
 use lib.Arith.{mod-mul}
 use lib.Pow.{pow-add}
@@ -52,17 +52,6 @@ fromLe-toLe (suc n) v =
 -- writing then reading gives the pattern back
 pub fromLe-toLe-fits : (n v : ℕ) → v < 256 ^ n → fromLe (toLe n v) ≡ v
 fromLe-toLe-fits n v h = fromLe-toLe n v ∙ mod-eq-of-lt h
-
--- the lowest i bytes, and then j bytes of what is left
-pub toLe-split : (i j v : ℕ) → toLe i v ++ toLe j (v / 256 ^ i) ≡ toLe (i + j) v
-toLe-split zero j v = ap (λ (z : ℕ). toLe j z) (div-one v) ∙ ap (λ (z : ℕ). toLe z v) (sym (zero-add j))
-toLe-split (suc i) j v =
-    ap (λ (z : ℕ). v % 256 ∷ (toLe i (v / 256) ++ toLe j z)) (ap (λ (z : ℕ). v / z) (pow-suc 256 i ∙ mul-comm (256 ^ i) 256) ∙ sym (div-div-eq-div-mul v 256 (256 ^ i)))
-    ∙ ap (λ (z : List ℕ). v % 256 ∷ z) (toLe-split i j (v / 256))
-    ∙ ap (λ (z : ℕ). toLe z v) (s+ i j)
-  where
-    s+ : (i j : ℕ) → suc (i + j) ≡ suc i + j
-    s+ i j = omega arith
 
 -- 8 bits to a byte
 pub byte-patterns : (n : ℕ) → 256 ^ n ≡ 2 ^ (8 * n)

@@ -38,7 +38,7 @@ pub fn run(src: &[u8], dst: &mut [u8], keys: &[u8], targets: &[u8], s: Settings,
         let Fit::Pattern { pattern, fared } = r else {
             return reply(chunk_element::refused_at(src, s, input, i, r), tally);
         };
-        bytes_le::write_le(dst, output, dw, pattern);
+        store_le::write_le(dst, output, dw, pattern);
         last = counts::place(fared);
         input += sw;
         output += dw;

@@ -542,7 +542,7 @@ fn put(d: &mut [u8], at: usize, x: u64)
     requires { ⌜ at + 8 ≤ length (now d) ⌝ }
     ensures { λ _. ⌜ length (now (d .exit)) ≡ length (now (d .entry)) ⌝ }
 {
-    bytes_le::write_le(d, at, 8, x);
+    store_le::write_le(d, at, 8, x);
 }
 
 // 255 to 1, 0 to 2, 255 to 3

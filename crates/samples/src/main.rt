@@ -172,7 +172,7 @@ fn put(d: &mut [u8], at: usize, x: u64)
     requires { ⌜ at + 8 ≤ length (now d) ⌝ }
     ensures { λ _. ⌜ length (now (d .exit)) ≡ length (now (d .entry)) ⌝ }
 {
-    bytes_le::write_le(d, at, 8, x);
+    store_le::write_le(d, at, 8, x);
 }
 
 // 14. Map NaN to 9, 0 to 7, 0 to 8: -0 gives 7.

@@ -1,13 +1,13 @@
--- `bytes_le::write_le` meets its contract: each arm puts as many bytes as the width says.
+-- `store_le::write_le` meets its contract: each arm puts as many bytes as the width says.
 use mathlib.Core.Path.{_≡_, sym, ap, _∙_}
 use Prim.Native.Nat.{ℕ}
 use native.Mathlib.Omega.{arith}
 use denote.Ref.{now}
 use borrow.Author.Needs.{needs}
 use Rattle.bytes_le.specs.Bytes.{put}
 use Rattle.bytes_le.proofs.Widths.{last-width}
-use Rattle.bytes_le.proofs.write_le.Statement.{statement}
-use Rattle.bytes_le.proofs.write_le.Tie as tie
+use Rattle.store_le.proofs.write_le.Statement.{statement}
+use Rattle.store_le.proofs.write_le.Tie as tie
 
 -- the last arm's width
 eight : (c : tie.At-match-rest) → c .before .before .args .width ≡ 8

@@ -1,10 +1,10 @@
--- `bytes_le::put_le` meets its contract: the loop's invariant is that the bytes so far are put.
+-- `store_le::put_le` meets its contract: the loop's invariant is that the bytes so far are put.
 use Prim.Native.Nat.{_-_}
 use native.Mathlib.Omega.{arith}
 use denote.Ref.{now}
-use Rattle.bytes_le.proofs.Stores.{Stored, none-stored, all-stored, one-more-stored}
-use Rattle.bytes_le.proofs.put_le.Statement.{statement}
-use Rattle.bytes_le.proofs.put_le.Tie as tie
+use Rattle.store_le.proofs.Stores.{Stored, none-stored, all-stored, one-more-stored}
+use Rattle.store_le.proofs.put_le.Statement.{statement}
+use Rattle.store_le.proofs.put_le.Tie as tie
 
 abbrev Inv-loop : tie.InvT-loop
 Inv-loop d₀ at width v k₀ d k = Stored d₀ at width v k d

@@ -2,15 +2,26 @@
 use mathlib.Core.Path.{_≡_, refl, sym, ap, ap₂, subst, _∙_}
 use mathlib.Core.List.{List, _∷_, _++_, append-assoc}
 use Prim.Native.Nat.{ℕ, zero, suc, _+_, _*_, _/_, _%_, _^_, _≤_, _<_}
-use native.Mathlib.Nat.{add-zero, mod-lt, zero-lt-suc}
+use native.Mathlib.Nat.{add-zero, div-div-eq-div-mul, div-one, mod-lt, mul-comm, pow-suc, zero-add, zero-lt-suc}
 use native.Mathlib.Omega.{arith}
 use lib.ListN.{length, getD, set, take, drop, length-append, length-drop, length-set, length-take, take-append-drop}
 use lib.Seq.{append-snoc, drop-at, drop-cons, length-take-le, set-at, take-at}
 use Rattle.bytes_le.specs.Bytes.{fromLe, toLe, put}
 use Rattle.bytes_le.specs.Fetch.{Fetched}
 use Rattle.bytes_le.proofs.Fetches.{sum-is-fetched, sum-is-number}
-use Rattle.bytes_le.proofs.Sums.{byte-patterns, fromLe-toLe-fits, length-toLe, toLe-split}
+use Rattle.bytes_le.proofs.Sums.{byte-patterns, fromLe-toLe-fits, length-toLe}
 use Rattle.bytes_le.proofs.Unique.{AreBytes}
+
+-- the lowest i bytes, and then j bytes of what is left
+pub toLe-split : (i j v : ℕ) → toLe i v ++ toLe j (v / 256 ^ i) ≡ toLe (i + j) v
+toLe-split zero j v = ap (λ (z : ℕ). toLe j z) (div-one v) ∙ ap (λ (z : ℕ). toLe z v) (sym (zero-add j))
+toLe-split (suc i) j v =
+    ap (λ (z : ℕ). v % 256 ∷ (toLe i (v / 256) ++ toLe j z)) (ap (λ (z : ℕ). v / z) (pow-suc 256 i ∙ mul-comm (256 ^ i) 256) ∙ sym (div-div-eq-div-mul v 256 (256 ^ i)))
+    ∙ ap (λ (z : List ℕ). v % 256 ∷ z) (toLe-split i j (v / 256))
+    ∙ ap (λ (z : ℕ). toLe z v) (s+ i j)
+  where
+    s+ : (i j : ℕ) → suc (i + j) ≡ suc i + j
+    s+ i j = omega arith
 
 -- ---- what is put is fetched again
 toLe-bytes : (n v : ℕ) → AreBytes (toLe n v)
