@@ -7,7 +7,7 @@ use Rattle.kinds.specs.declared.FloatFormat.{FloatFormat}
 use Rattle.counts.specs.declared.Fared.the-variants.{Exact}
 use Rattle.answers.specs.declared.Fit.the-variants.{Pattern}
 use Rattle.floats.specs.Form.{CanonicalClass}
-use Rattle.narrowing.specs.Fit.{Special, fitClass, fitFloat}
+use Rattle.narrowing.specs.Fit.{fitClass, fitFloat}
 use Rattle.narrowing.proofs.Specials.{special}
 use Rattle.kinds.proofs.FloatRows.{double}
 use Rattle.conversions.proofs.Rows.{row-narrower}

@@ -12,7 +12,6 @@ use Rattle.answers.specs.declared.Fit.the-variants.{Pattern}
 use Rattle.float_fields.proofs.Signs.{signed-sum, signed-fits}
 use Rattle.integers.specs.Precision.{roundedBits}
 use Rattle.integers.proofs.Bounds.{pick-bits-lt}
-use Rattle.narrowing.specs.Format.{Narrower}
 use Rattle.conversions.specs.Fit.{fitInteger}
 use Rattle.kinds.proofs.FloatRows.{double}
 use Rattle.conversions.proofs.IntToFloat.{integer-to-f64, integer-rebiasable, integer-narrowed}

@@ -1,5 +1,5 @@
 -- `conversions::finite_to_float` meets its contract: the f64 of the number, or its narrowing to the row.
-use mathlib.Core.Path.{sym, ap, ap₂, _∙_}
+use mathlib.Core.Path.{sym, ap, _∙_}
 use Prim.Native.Nat.{ℕ, _*_, _^_}
 use native.Mathlib.Omega.{arith}
 use lib.Dec.{lit<, lit≤}
