@@ -16,7 +16,8 @@ typedef uint8_t preview_call(const uint8_t *, size_t, const uint8_t *, size_t, c
                              uint8_t, uint8_t, polskrea_answer *, uint64_t *);
 typedef uint8_t typed_call(const void *, size_t, void *, size_t, const void *, size_t, uint8_t, uint8_t, polskrea_answer *);
 
-/* A row of the table: what is converted, the random numbers of the source, by their ends or any pattern, the map's entries, and the typed call. */
+/* A row of the table: the codes of the two kinds, of the rounding and of the range choice, the ends of the source's random numbers, or twice the same for
+ * any pattern, the map's entries, and the typed call. */
 struct row {
     const char *name, *data;
     uint8_t from, to, rounding, range;
@@ -45,7 +46,7 @@ static const struct row ROWS[] = {
     {"f32 to f16, none, towards-zero", "-6e4 to 6e4", 8, 10, 1, 0, -6e4, 6e4, 0, NULL},
     {"f32 to f16, none, nearest-away", "-6e4 to 6e4", 8, 10, 4, 0, -6e4, 6e4, 0, NULL},
     {"f16 to f32, none, nearest-even", "any f16", 10, 8, 0, 0, 0, 0, 0, NULL},
-    {"u16 to f16, none, nearest-even", "0 to 65519", 5, 10, 0, 0, 0, 65519, 0, NULL},
+    {"u16 to f16, none, nearest-even", "0 to 65519", 5, 10, 0, 0, 0, 65520, 0, NULL},
     {"f64 to i64, wrap, nearest-even", "in range", 9, 3, 0, 2, -9e18, 9e18, 0, NULL},
     {"f64 to i64, wrap, nearest-even", "far out", 9, 3, 0, 2, -1e30, 1e30, 0, NULL},
     {"u16 to i8, clamp, nearest-even", "any u16", 5, 0, 0, 1, 0, 0, 0, NULL},
@@ -54,6 +55,7 @@ static const struct row ROWS[] = {
     {"f64 to u8, clamp, nearest-even", "map of 8", 9, 4, 0, 1, -100, 400, 8, "f64_to_u8"},
 };
 
+/* The bytes of an element, by its kind code. */
 static const size_t WIDTHS[] = {1, 2, 4, 8, 1, 2, 4, 8, 4, 8, 2};
 
 static uint64_t state = 88172645463325252u;
@@ -107,7 +109,7 @@ static void *symbol(const char *folder, const char *library, const char *name)
     return found;
 }
 
-/* A table: the calls of a row, one for each folder, and what they are given. */
+/* What the calls of a row are given. Only f64 to u8 has entries. */
 struct chunk {
     const struct row *row;
     uint8_t *src, *dst;
@@ -132,19 +134,23 @@ static int call(int k, void *f, struct chunk *c)
     return ((preview_call *)f)(c->src, c->n * sw, c->dst, c->n * dw, c->keys, e * sw, c->targets, e * dw, r->from, r->to, r->rounding, r->range, &a, &changed) == 0;
 }
 
-/* Prints the two means and their ratio, or nothing where a version refuses the row. */
+/* Prints the two means and their ratio, and an empty cell where there is no such call, or where a version refuses the row. */
 static void cells(int k, void **calls, int count, struct chunk *c, int repeats)
 {
     double best[MOST], mean[2] = {0, 0};
     int passes = c->n < 10000 ? (int)(200000 / c->n) : 1;
-    int answered[2] = {calls[0] != NULL, calls[0] != NULL};
-    for (int i = 0; i < count && calls[0]; i++) {
+    int half = count / 2, answered[2] = {1, 1};
+    if (!calls[0]) {
+        printf(" | | |");
+        return;
+    }
+    for (int i = 0; i < count; i++) {
         best[i] = 1e9;
-        answered[i / (count / 2)] &= call(k, calls[i], c);
+        answered[i / half] &= call(k, calls[i], c);
     }
     for (int t = 0; t < repeats; t++) {
         for (int i = 0; i < count; i++) {
-            if (!answered[i / (count / 2)]) {
+            if (!answered[i / half]) {
                 continue;
             }
             double start = seconds();
@@ -156,12 +162,18 @@ static void cells(int k, void **calls, int count, struct chunk *c, int repeats)
         }
     }
     for (int i = 0; i < count; i++) {
-        mean[i / (count / 2)] += answered[i / (count / 2)] ? best[i] / (count / 2) : 0;
+        mean[i / half] += best[i] / half;
     }
     for (int v = 0; v < 2; v++) {
-        answered[v] ? printf(" %.2f |", mean[v]) : printf(" |");
+        if (answered[v]) {
+            printf(" %.2f", mean[v]);
+        }
+        printf(" |");
     }
-    answered[0] && answered[1] ? printf(" %.2f |", mean[1] / mean[0]) : printf(" |");
+    if (answered[0] && answered[1]) {
+        printf(" %.2f", mean[1] / mean[0]);
+    }
+    printf(" |");
 }
 
 int main(int argc, char **argv)
@@ -177,6 +189,10 @@ int main(int argc, char **argv)
         printf("|---|---|---|---|---|---|---|---|---|---|---|\n");
         for (size_t i = 0; i < sizeof ROWS / sizeof *ROWS; i++) {
             struct chunk c = {&ROWS[i], calloc(n, 8), calloc(n, 8), n, {0}, {0}, {{0, 0}}};
+            if (!c.src || !c.dst) {
+                fprintf(stderr, "no memory\n");
+                return 1;
+            }
             void *calls[3][MOST] = {{0}};
             char name[64];
             for (size_t j = 0; j < n; j++) {

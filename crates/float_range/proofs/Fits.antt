@@ -15,7 +15,7 @@ use Rattle.grid.proofs.Neighbours.{cut}
 use Rattle.grid.proofs.Picked.{picked-pos}
 use Rattle.patterns.specs.Float.{bitsMag, infBits}
 use Rattle.patterns.specs.Kind.{Kind, InRange, binary}
-use Rattle.patterns.specs.Pattern.{infinity, magBits, patternOf, withSign}
+use Rattle.patterns.specs.Pattern.{magBits, patternOf, withSign}
 use Rattle.patterns.proofs.Floats.{abs-signed, bits-in-range, bits-past-range, inf-lt, mag-back}
 use Rattle.counts.specs.Counts.{byPick}
 use Rattle.codes.specs.declared.OutOfRangeMode.{OutOfRangeMode}

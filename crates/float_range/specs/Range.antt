@@ -12,7 +12,7 @@ use Rattle.codes.specs.declared.OutOfRangeMode.the-variants.{None, Clamp, Wrap}
 use Rattle.answers.specs.declared.Fit.{Fit}
 use Rattle.answers.specs.declared.Fit.the-variants.{Pattern, OutOfRange}
 
--- p significant bits and w bits of exponent field
+-- p significant bits, fewer than f64 has, and w bits of exponent field, from 1 to 11
 pub record FormatBits (p w : ℕ) : Type 0 where
   pub two : 2 ≤ p
   pub fewer : p < 53

@@ -1,4 +1,4 @@
-// The range of a float kind: the bits of a pick are stored, and those that reach an infinity's are clamped to it or refused, by the range choice.
+// The range of a float kind narrower than f64: the bits of a pick are stored, and those that reach an infinity's are clamped to it or refused, by the range choice.
 ghost use mathlib.Core.Path.{_≡_};
 ghost use Rattle.patterns.specs.Float.{infBits};
 ghost use Rattle.patterns.specs.Pattern as pattern;

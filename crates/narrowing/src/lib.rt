@@ -64,7 +64,8 @@ fn quiet_fraction(fraction: u64, p: u32) -> u64
     highest + ((fraction >> (53 - p)) & (highest - 1))
 }
 
-// An infinity or a NaN in the format of p significant bits and w bits of exponent field: its sign stays, and of a NaN the top of its fraction.
+// An infinity or a NaN in the format of p significant bits and w bits of exponent field: its sign stays, and of a NaN the top of its fraction. It is
+// exact, whatever the spacing, the rule and the range choice.
 pub fn narrow_special(x: Float, p: u32, w: u32) -> u64
     requires { ⌜ Special (x .class) × FormatBits p w ⌝ }
     ensures { λ r. ⌜ ((s : ℕ) (mode : RoundingMode) (range : OutOfRangeMode) → Fit.Pattern r Fared.Exact ≡ fitFloat (binary p w s) mode range x) ⌝ }

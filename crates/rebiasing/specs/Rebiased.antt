@@ -11,6 +11,6 @@ pub record Rebiasable (p s bits : ℕ) : Type 0 where
 abbrev pub rebiased : ℕ → ℕ → ℕ → ℕ
 rebiased p s bits = cond (eqb bits 0) 0 ((bits - (s - (53 - p)) * 2 ^ 52) / 2 ^ (53 - p))
 
--- those of the power of two that the field of ones would stand for
+-- the bits in f64 of the first power of two past the format, which its field of ones would stand for
 abbrev pub pastBits : ℕ → ℕ → ℕ → ℕ
 pastBits p w s = (s - (53 - p) + (2 ^ w - 1)) * 2 ^ 52

@@ -30,8 +30,8 @@ fn first_past(p: u32, w: u32, s: u64) -> u64
     (base + ((1u64 << w) - 1)) << 52
 }
 
-// An integer that was rounded to p significant bits, has the bits below its sign in f64 and lies where `ternary` says, in the format of p significant
-// bits, w bits of exponent field and the smallest spacing 2^s. Its range is told by the bits in f64: that takes fewer instructions than by those it comes to.
+// A number that has the bits below its sign in f64, and lies where `ternary` says, in the format of p significant bits, w bits of exponent field and the
+// smallest spacing 2^s. Its range is told by its bits in f64: that takes fewer instructions than by those that it has in the format.
 pub fn fit_rebiased(
     bits: u64,
     ternary: Ternary,

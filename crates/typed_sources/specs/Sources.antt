@@ -1,4 +1,4 @@
--- Internal: the state of a typed call's loop, over patterns.
+-- Internal: the state of a typed call's loop at a position of the source's patterns, and at its start.
 use mathlib.Core.Bool.{cond}
 use mathlib.Core.List.{List}
 use Prim.Native.Nat.{ℕ}

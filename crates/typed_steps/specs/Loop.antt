@@ -1,4 +1,4 @@
--- Internal: what one element does to the state of a typed call's loop and to its destination.
+-- Internal: what one element does to the state of a typed call's loop, to its destination and to its tally.
 use mathlib.Core.Path.{_≡_}
 use mathlib.Core.List.{List}
 use Prim.Native.Nat.{ℕ, _+_}
