@@ -4,8 +4,8 @@ use mathlib.Core.List.{List}
 use Prim.Native.Nat.{ℕ, _+_, _*_, _^_, _≤_, _<_}
 use lib.ListN.{length, take, drop}
 use Rattle.bytes_le.specs.Bytes.{fromLe, toLe, put}
-use Rattle.counts.specs.Counts.{placeOf, countsIn}
-use Rattle.counts.specs.Tally.{noTally, oneMoreAt}
+use Rattle.counts.specs.Counts.{placeOf}
+use Rattle.tallies.specs.Tally.{countsIn, noTally, oneMoreAt}
 use Rattle.counts.specs.declared.Fared.{Fared}
 use Rattle.hamming.specs.Distance.{distance}
 use Rattle.hamming.proofs.Distances.{same-0, at-most-front}
@@ -19,7 +19,8 @@ use Rattle.cast_spec.specs.Chunk.{answerNext, Refuses}
 use Rattle.cast_spec.specs.Element as E
 use Rattle.cast_spec.specs.Element.{outcomeOf}
 use Rattle.cast_spec.specs.Fit.{fitOf}
-use Rattle.chunk_run.specs.Run.{replyOf, outcomes}
+use Rattle.replies.specs.Reply.{replyOf}
+use Rattle.chunk_run.specs.Run.{outcomes}
 use Rattle.chunk_run.proofs.Loop as loop
 use Rattle.chunk_preview.specs.Foreseen.{Foreseen}
 

@@ -23,26 +23,26 @@ pub fn preview(
     let mut input = 0;
     let mut output = 0;
     let mut changed = 0;
-    let mut tally = counts::no_tally();
-    let mut last = counts::NO_ELEMENT;
+    let mut tally = tallies::no_tally();
+    let mut last = tallies::NO_ELEMENT;
     while i < n {
-        counts::count_at(&mut tally, last);
+        tallies::count_at(&mut tally, last);
         let r = chunk_element::fit_at(src, keys, targets, s, input);
         let Fit::Pattern { pattern, fared } = r else {
             return Preview {
-                reply: chunk_run::reply(chunk_element::refused_at(src, s, input, i, r), tally),
+                reply: replies::reply(chunk_element::refused_at(src, s, input, i, r), tally),
                 changed: changed,
             };
         };
         changed += hamming::distance_le(dst, output, s.dw, pattern);
-        last = counts::place(fared);
+        last = tallies::place(fared);
         input += s.sw;
         output += s.dw;
         i += 1;
     }
-    counts::count_at(&mut tally, last);
+    tallies::count_at(&mut tally, last);
     Preview {
-        reply: chunk_run::reply(Answer::Converted, tally),
+        reply: replies::reply(Answer::Converted, tally),
         changed: changed,
     }
 }

@@ -10,16 +10,18 @@ use lib.Seq.{drop-drop}
 use Rattle.cast_spec.specs.Element.{outcomeOf}
 use Rattle.chunk_element.specs.declared.Settings.{Settings}
 use Rattle.cast_spec.proofs.Runs.{Run, one-more, count-le, refused-converted}
-use Rattle.counts.specs.Counts.{placeOf, countOf, countsIn}
-use Rattle.counts.specs.Tally.{noTally, counted, oneMoreAt, CountableAt}
-use Rattle.counts.proofs.Tallies as tallies
+use Rattle.counts.specs.Counts.{placeOf, countOf}
+use Rattle.tallies.specs.Tally.{countsIn, noTally, oneMoreAt, CountableAt}
+use Rattle.counts.specs.OneMore.{counted}
+use Rattle.tallies.proofs.Tallies as tallies
 use Rattle.counts.specs.declared.Counts.{Counts}
 use Rattle.counts.specs.declared.Fared.{Fared}
 use Rattle.answers.specs.declared.Answer.{Answer}
 use Rattle.answers.specs.declared.Reply.{Reply}
 use Rattle.chunk_element.specs.Settings.{settingsFor}
 use Rattle.chunk_element.specs.Place.{FitReady, refusedAnswer}
-use Rattle.chunk_run.specs.Run.{replyOf, RunReady, Ran, outcomes}
+use Rattle.replies.specs.Reply.{replyOf}
+use Rattle.chunk_run.specs.Run.{RunReady, Ran, outcomes}
 use Rattle.answers.specs.declared.Outcome.{Outcome}
 use Rattle.answers.specs.declared.Outcome.the-variants.{Stored}
 use Rattle.answers.specs.declared.Fit.{Fit}

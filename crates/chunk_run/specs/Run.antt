@@ -4,8 +4,6 @@ use mathlib.Core.List.{List}
 use Prim.Native.Nat.{ℕ, _*_, _≤_}
 use lib.ListN.{length}
 use Rattle.bytes_le.specs.Bytes.{patternAt}
-use Rattle.counts.specs.declared.Counts.{Counts}
-use Rattle.answers.specs.declared.Answer.{Answer}
 use Rattle.answers.specs.declared.Outcome.{Outcome}
 use Rattle.answers.specs.declared.Reply.{Reply}
 use Rattle.cast_spec.specs.Element as E
@@ -13,9 +11,6 @@ use Rattle.cast_spec.specs.Element.{outcomeOf}
 use Rattle.cast_spec.specs.Chunk.{answerFrom, bytesFrom, convertedOf, countsBelow}
 use Rattle.chunk_element.specs.declared.Settings.{Settings}
 use Rattle.chunk_element.specs.Settings.{MapReady}
-
-abbrev pub replyOf : Answer → Counts → Reply
-replyOf a c = record { answer = a; counts = c }
 
 pub record RunReady (s : Settings) (keys targets src dst : List ℕ) (n : ℕ) : Type 0 where
   pub map : MapReady s keys targets

@@ -1,23 +1,11 @@
 // The elements of a chunk in the order of their positions, up to the first refusal, and the counts of those that are converted.
 ghost use mathlib.Core.Path.{_≡_};
-ghost use Rattle.counts.specs.Counts.{countsIn};
 ghost use Rattle.chunk_element.specs.Settings.{settingsFor};
-ghost use Rattle.chunk_run.specs.Run.{replyOf, RunReady, Ran};
+ghost use Rattle.chunk_run.specs.Run.{RunReady, Ran};
 use answers::Answer;
 use answers::Fit;
 use answers::Reply;
 use chunk_element::Settings;
-use counts::Tally;
-
-// The reply of an answer and of a tally.
-pub fn reply(answer: Answer, tally: Tally) -> Reply
-    ensures { λ r. ⌜ r ≡ replyOf answer (countsIn tally) ⌝ }
-{
-    Reply {
-        answer: answer,
-        counts: counts::counts_of(tally),
-    }
-}
 
 // The first n elements, by position, up to the first refusal. An element is counted when the next turn begins: at once, its place in the tally would be
 // known so late that the machine's loads behind it wait.
@@ -30,20 +18,20 @@ pub fn run(src: &[u8], dst: &mut [u8], keys: &[u8], targets: &[u8], s: Settings,
     let mut i = 0;
     let mut input = 0;
     let mut output = 0;
-    let mut tally = counts::no_tally();
-    let mut last = counts::NO_ELEMENT;
+    let mut tally = tallies::no_tally();
+    let mut last = tallies::NO_ELEMENT;
     while i < n {
-        counts::count_at(&mut tally, last);
+        tallies::count_at(&mut tally, last);
         let r = chunk_element::fit_at(src, keys, targets, s, input);
         let Fit::Pattern { pattern, fared } = r else {
-            return reply(chunk_element::refused_at(src, s, input, i, r), tally);
+            return replies::reply(chunk_element::refused_at(src, s, input, i, r), tally);
         };
         store_le::write_le(dst, output, dw, pattern);
-        last = counts::place(fared);
+        last = tallies::place(fared);
         input += sw;
         output += dw;
         i += 1;
     }
-    counts::count_at(&mut tally, last);
-    reply(Answer::Converted, tally)
+    tallies::count_at(&mut tally, last);
+    replies::reply(Answer::Converted, tally)
 }

@@ -1,7 +1,5 @@
 -- To be believed: "five counts: mapped, exact, rounded, clamped, wrapped".
-use mathlib.Core.List.{List}
 use Prim.Native.Nat.{ℕ}
-use lib.ListN.{getD}
 use Rattle.grid.specs.declared.Ternary.{Ternary}
 use Rattle.grid.specs.declared.Ternary.the-variants as T
 use Rattle.counts.specs.declared.Fared.{Fared}
@@ -31,7 +29,3 @@ countOf Exact c = c .exact
 countOf Rounded c = c .rounded
 countOf Clamped c = c .clamped
 countOf Wrapped c = c .wrapped
-
--- the counts in a row
-abbrev pub countsIn : List ℕ → Counts
-countsIn t = record { mapped = getD t 0 0; exact = getD t 1 0; rounded = getD t 2 0; clamped = getD t 3 0; wrapped = getD t 4 0 }

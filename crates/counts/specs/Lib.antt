@@ -1,2 +1,2 @@
 pub mod Counts
-pub mod Tally
+pub mod OneMore

@@ -55,8 +55,7 @@ use Rattle.counts.specs.declared.Counts.{Counts}
 use Rattle.answers.specs.declared.Lookup.{Lookup}
 use Rattle.answers.specs.declared.Reply.{Reply}
 use Rattle.kinds.specs.Table.{kindOf}
-use Rattle.counts.specs.Counts.{countsIn}
-use Rattle.counts.specs.Tally.{noTally, Countable}
+use Rattle.tallies.specs.Tally.{countsIn, noTally, Countable}
 use Rattle.answers.proofs.Reply as R
 use Rattle.answers.proofs.Reply.Laws as R′
 use Rattle.answers.proofs.Lookup as F

@@ -14,8 +14,9 @@ use Rattle.bytes_le.proofs.Widths.{element-within}
 use Rattle.grid.specs.declared.RoundingMode.{RoundingMode}
 use Rattle.patterns.specs.Kind.{bits, width}
 use Rattle.patterns.specs.Value.{valueOf}
-use Rattle.counts.specs.Counts.{noCounts, countOf, countsIn}
-use Rattle.counts.specs.Tally.{noTally, counted, Countable}
+use Rattle.counts.specs.Counts.{noCounts, countOf}
+use Rattle.tallies.specs.Tally.{countsIn, noTally, Countable}
+use Rattle.counts.specs.OneMore.{counted}
 use Rattle.answers.specs.declared.Answer.{Answer}
 use Rattle.counts.specs.declared.Counts.{Counts}
 use Rattle.counts.specs.declared.Fared.{Fared}

@@ -5,11 +5,11 @@ ghost use Prim.Native.Nat.{_<_, _^_};
 ghost use lib.ListN.{length};
 ghost use Rattle.typed_values.specs.Bits.{f64Bits, i64Bits};
 ghost use Rattle.typed_patterns.specs.Values.{f32Of};
-ghost use Rattle.counts.specs.Tally.{Countable};
+ghost use Rattle.tallies.specs.Tally.{Countable};
 ghost use Rattle.typed_steps.specs.Loop.{outcomeFor, nextState, storedIn, TalliedBy};
 use answers::Fit;
 use answers::Lookup;
-use counts::Tally;
+use tallies::Tally;
 use kinds::Format;
 use typed_states::State;
 
@@ -26,7 +26,7 @@ pub fn step_f64_f32(src: &[f64], dst: &mut [f32], s: State, f: Lookup, tally: &m
     let x = floats::read_f64(s.x);
     let fit = steps::step_float_to_float(x, f, kinds::F32, rounding, range);
     if let Fit::Pattern { pattern, fared } = fit {
-        counts::count(tally, fared);
+        tallies::count(tally, fared);
         dst[at] = typed_patterns::f32_of(pattern);
         return typed_sources::state_f64(src, at + 1, rounding, range);
     }
@@ -52,7 +52,7 @@ pub fn step_i64_f32(src: &[i64], dst: &mut [f32], s: State, f: Lookup, tally: &m
     let x = integers::int_magnitude(s.x, true, 64);
     let fit = steps::step_int_to_float(x, f, kinds::F32, rounding, range);
     if let Fit::Pattern { pattern, fared } = fit {
-        counts::count(tally, fared);
+        tallies::count(tally, fared);
         dst[at] = typed_patterns::f32_of(pattern);
         return typed_sources::state_i64(src, at + 1, rounding, range);
     }

@@ -1,13 +1,13 @@
 // The state of a typed call's loop, whatever the source: after the checks, at an element's pattern, and at the end.
 ghost use mathlib.Core.Path.{_≡_};
 ghost use Rattle.cast_spec.specs.Chunk.{answerNext};
-ghost use Rattle.counts.specs.Counts.{countsIn};
+ghost use Rattle.tallies.specs.Tally.{countsIn};
 ghost use Rattle.typed_states.specs.States.{checkOf, going, stopped};
 use answers::Answer;
 use answers::Outcome;
 use answers::Reply;
 use codes::OutOfRangeMode;
-use counts::Tally;
+use tallies::Tally;
 use grid::RoundingMode;
 
 // What the loop of a typed call carries: whether an element is to be converted, its position and its pattern, the answer once the loop ends,
@@ -85,8 +85,5 @@ pub fn reply_of(s: State, tally: Tally) -> Reply
     ensures { λ r. ⌜ (r .answer ≡ s .answer) × (r .counts ≡ countsIn tally) ⌝ }
 {
     let answer = s.answer;
-    Reply {
-        answer: answer,
-        counts: counts::counts_of(tally),
-    }
+    replies::reply(answer, tally)
 }

@@ -7,7 +7,7 @@ use types.Run.{OneOf}
 use denote.Enum.Declared.{tagOf}
 use Rattle.patterns.specs.Pattern.{asF64}
 use Rattle.kinds.specs.Table.{kindOf}
-use Rattle.counts.specs.Tally.{Tallied}
+use Rattle.tallies.specs.Tally.{Tallied}
 use Rattle.answers.specs.declared.Answer.the-variants.{Converted}
 use Rattle.counts.specs.declared.Fared.{Fared}
 use Rattle.answers.specs.declared.Fit.{Fit}

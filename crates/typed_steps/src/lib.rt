@@ -5,11 +5,11 @@ ghost use Prim.Native.Nat.{_<_, _^_};
 ghost use lib.ListN.{length};
 ghost use Rattle.typed_values.specs.Bits.{f64Bits, f32Bits};
 ghost use Rattle.typed_patterns.specs.Values.{u8Of, i32Of};
-ghost use Rattle.counts.specs.Tally.{Countable};
+ghost use Rattle.tallies.specs.Tally.{Countable};
 ghost use Rattle.typed_steps.specs.Loop.{outcomeFor, nextState, storedIn, TalliedBy};
 use answers::Fit;
 use answers::Lookup;
-use counts::Tally;
+use tallies::Tally;
 use kinds::Format;
 use typed_states::State;
 
@@ -26,7 +26,7 @@ pub fn step_f64_u8(src: &[f64], dst: &mut [u8], s: State, f: Lookup, tally: &mut
     let x = floats::read_f64(s.x);
     let fit = steps::step_float_to_int(x, f, kinds::U8, rounding, range);
     if let Fit::Pattern { pattern, fared } = fit {
-        counts::count(tally, fared);
+        tallies::count(tally, fared);
         dst[at] = typed_patterns::u8_of(pattern);
         return typed_sources::state_f64(src, at + 1, rounding, range);
     }
@@ -52,7 +52,7 @@ pub fn step_f64_i32(src: &[f64], dst: &mut [i32], s: State, f: Lookup, tally: &m
     let x = floats::read_f64(s.x);
     let fit = steps::step_float_to_int(x, f, kinds::I32, rounding, range);
     if let Fit::Pattern { pattern, fared } = fit {
-        counts::count(tally, fared);
+        tallies::count(tally, fared);
         dst[at] = typed_patterns::i32_of(pattern);
         return typed_sources::state_f64(src, at + 1, rounding, range);
     }
@@ -78,7 +78,7 @@ pub fn step_f32_u8(src: &[f32], dst: &mut [u8], s: State, f: Lookup, tally: &mut
     let x = floats::read_f32(s.x as u32);
     let fit = steps::step_float_to_int(x, f, kinds::U8, rounding, range);
     if let Fit::Pattern { pattern, fared } = fit {
-        counts::count(tally, fared);
+        tallies::count(tally, fared);
         dst[at] = typed_patterns::u8_of(pattern);
         return typed_sources::state_f32(src, at + 1, rounding, range);
     }

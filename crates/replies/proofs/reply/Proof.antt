@@ -1,9 +1,9 @@
--- `chunk_run::reply` meets its contract: its counts are those of the tally.
+-- `replies::reply` meets its contract: its counts are those of the tally.
 use mathlib.Core.Path.{ap}
 use borrow.Author.Needs.{needs}
-use Rattle.chunk_run.specs.Run.{replyOf}
-use Rattle.chunk_run.proofs.reply.Statement.{statement}
-use Rattle.chunk_run.proofs.reply.Tie as tie
+use Rattle.replies.specs.Reply.{replyOf}
+use Rattle.replies.proofs.reply.Statement.{statement}
+use Rattle.replies.proofs.reply.Tie as tie
 
 returns : tie.Need-returns
 returns c = ap (replyOf (c .before .args .answer)) (c .counts-of .ensures)

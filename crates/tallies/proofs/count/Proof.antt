@@ -1,14 +1,13 @@
--- `counts::count` meets its contract: one more at the class's place is one element more of that class.
+-- `tallies::count` meets its contract: one more at the class's place is one element more of that class.
 use mathlib.Core.Path.{sym, ap, subst, _∙_}
 use Prim.Native.Nat.{ℕ}
 use lib.ListN.{length, length-set}
 use denote.Ref.{now}
 use borrow.Author.Needs.{needs}
-use Rattle.counts.specs.Counts.{countsIn}
-use Rattle.counts.specs.Tally.{oneMoreAt, CountableAt}
-use Rattle.counts.proofs.Tallies.{one-more, countable-at}
-use Rattle.counts.proofs.count.Statement.{statement}
-use Rattle.counts.proofs.count.Tie as tie
+use Rattle.tallies.specs.Tally.{countsIn, oneMoreAt, CountableAt}
+use Rattle.tallies.proofs.Tallies.{one-more, countable-at}
+use Rattle.tallies.proofs.count.Statement.{statement}
+use Rattle.tallies.proofs.count.Tie as tie
 
 count-at-requires : tie.Need-count-at-requires
 count-at-requires c κs =

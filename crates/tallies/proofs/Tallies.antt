@@ -4,11 +4,12 @@ use mathlib.Core.List.{List, [], _∷_}
 use Prim.Native.Nat.{ℕ, suc, _+_, _^_, _<_}
 use native.Mathlib.Omega.{arith}
 use lib.ListN.{length, getD}
-use Rattle.counts.specs.Counts.{placeOf, countOf, countsIn}
-use Rattle.counts.specs.Tally.{counted, oneMoreAt, CountableAt}
+use Rattle.counts.specs.Counts.{placeOf, countOf}
+use Rattle.counts.specs.OneMore.{counted}
+use Rattle.tallies.specs.Tally.{countsIn, oneMoreAt, CountableAt}
 use Rattle.counts.specs.declared.Counts.{Counts}
 use Rattle.counts.specs.declared.Fared.{Fared}
 use Rattle.counts.specs.declared.Fared.the-variants.{Mapped, Exact, Rounded, Clamped, Wrapped}
 
 next : (n : ℕ) → n + 1 ≡ suc n
 next n = omega arith
