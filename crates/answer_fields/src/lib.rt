@@ -67,5 +67,5 @@ pub fn answered(r: Reply, answer: &mut Fields) -> u8
     let a = r.answer;
     let c = r.counts;
     *answer = fields(a, c);
-    answers::number(a)
+    answer_numbers::number(a)
 }

@@ -23,8 +23,9 @@ use Rattle.floats.specs.declared.Class.the-variants.{Finite, Infinite, NotANumb
 use Rattle.floats.specs.declared.Float.{Float}
 use Rattle.floats.specs.declared.Scaled.{Scaled}
 use Rattle.floats.proofs.Class.{the-type}
-use Rattle.rounding.specs.Rounding.{unitsOf, wholeOf}
-use Rattle.rounding.specs.declared.Whole.{Whole}
+use Rattle.rounding.specs.Rounding.{unitsOf}
+use Rattle.whole_numbers.specs.Whole.{wholeOf}
+use Rattle.whole_numbers.specs.declared.Whole.{Whole}
 use Rattle.rounding.proofs.Units.{whole-times-unit}
 use Rattle.cast_spec.specs.Fit.{fitOf}
 use Rattle.narrowing.specs.Fit.{fitClass, fitFloat}

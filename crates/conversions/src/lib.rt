@@ -34,7 +34,7 @@ pub fn convert_float_to_int(
     let Class::Finite(magnitude) = class else {
         return Fit::NotFinite;
     };
-    let whole = rounding::round_to_whole(magnitude, mode, negative);
+    let whole = whole_numbers::round_to_whole(magnitude, mode, negative);
     let ternary = whole.ternary;
     integer_range::apply_range(negative, whole.magnitude, whole.exceeds, ternary, to, range)
 }

@@ -31,7 +31,7 @@ fn integral(x: Scaled, mode: RoundingMode, negative: bool) -> WholeMagnitude
             ternary: Ternary::Exact,
         };
     }
-    let whole = rounding::round_to_whole(x, mode, negative);
+    let whole = whole_numbers::round_to_whole(x, mode, negative);
     let ternary = whole.ternary;
     WholeMagnitude {
         magnitude: floats::normalize(whole.magnitude, 1074),
@@ -110,6 +110,6 @@ pub fn wrap_integral_f64(b: u64, bits: u32) -> u64
     let Class::Finite(magnitude) = class else {
         return 0;
     };
-    let whole = rounding::round_to_whole(magnitude, RoundingMode::TowardsZero, negative);
+    let whole = whole_numbers::round_to_whole(magnitude, RoundingMode::TowardsZero, negative);
     wrapping::wrap_magnitude(negative, whole.magnitude, bits)
 }

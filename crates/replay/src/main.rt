@@ -86,7 +86,7 @@ fn same_values(head: &[u8; 46], number: u8, fields: &[u64; 11]) -> bool {
         return false;
     }
     let second = if number == 4 { fields[1] } else { fields[3] };
-    let kind = if answers::names_position(number as usize) {
+    let kind = if answer_numbers::names_position(number as usize) {
         9
     } else {
         0
@@ -132,7 +132,7 @@ fn same_destination(to: u8, number: u8, a: &[u8], b: &[u8]) -> bool {
     if number == 0 {
         return same_elements(to, width(to), a, b);
     }
-    if answers::names_position(number as usize) {
+    if answer_numbers::names_position(number as usize) {
         return same_elements(to, width(to), a, b);
     }
     same_elements(0, 1, a, b)

@@ -24,7 +24,7 @@ pub fn put_refused(out: &mut [u8], number: usize, position: usize) -> usize
 {
     let told = text::put_text(out, 0, b"refused ");
     let end = text::put_decimal(out, told, number);
-    if !answers::names_position(number) {
+    if !answer_numbers::names_position(number) {
         return text::put_byte(out, end, b'\n');
     }
     let there = text::put_text(out, end, b" at ");
@@ -63,8 +63,8 @@ pub fn put_report(out: &mut [u8], bytes: &[u8], answer: Answer, n: usize, w: usi
     requires { ⌜ ReportFits (now out) (now bytes) answer n w ⌝ }
     ensures { λ r. ⌜ Wrote (now (out .entry)) 0 (report answer n w (now (bytes .entry))) r (now (out .exit)) ⌝ }
 {
-    let number = answers::number(answer) as usize;
-    let position = answers::position(answer);
+    let number = answer_numbers::number(answer) as usize;
+    let position = answer_numbers::position(answer);
     if number == 0 {
         let at = put_ok(out, n);
         return put_elements(out, at, bytes, w, n);

@@ -1,3 +1,2 @@
 pub mod Increments
 pub mod Units
-pub mod WholeNumbers

@@ -1,14 +1,12 @@
 -- Internal: what the rounding functions ask and return.
 use mathlib.Core.Bool.{Bool}
 use Prim.Native.Nat.{ℕ, _+_, _-_, _*_, _/_, _%_, _^_, _≤_, _<_}
-use lib.Dec.{leb}
 use Rattle.grid.specs.Grid.{whole}
 use Rattle.grid.specs.Round.{pickMag, ruleFor, signed, step}
-use Rattle.grid.specs.Ternary.{ternaryOf, ternaryFor}
+use Rattle.grid.specs.Ternary.{ternaryOf}
 use Rattle.grid.specs.declared.RoundingMode.{RoundingMode}
 use Rattle.grid.specs.declared.RoundingMode.the-variants.{NearestEven, TowardsZero, TowardsPositive, TowardsNegative, NearestAway}
 use Rattle.grid.specs.declared.Rounded.{Rounded}
-use Rattle.rounding.specs.declared.Whole.{Whole}
 
 -- what is added to q units of h + 1 and a rest, so that the quotient is the step
 abbrev pub incrementOf : RoundingMode → ℕ → ℕ → ℕ
@@ -31,7 +29,3 @@ unitsOf K r n = pickMag (whole K) r n / 2 ^ K
 -- a magnitude m in units of 2^j by the rule, and where that many units lie
 abbrev pub shifted : Bool → RoundingMode → ℕ → ℕ → Rounded
 shifted neg r m j = let q = step (ruleFor neg r) (m / 2 ^ j) (m % 2 ^ j) (2 ^ j) in record { bits = q; ternary = ternaryOf (signed neg m) (signed neg (q * 2 ^ j)) }
-
--- the pick of a magnitude n on the whole numbers, as a program has it: so many of them, and where it lies
-abbrev pub wholeOf : Bool → RoundingMode → ℕ → Whole
-wholeOf neg r n = let N = unitsOf 1074 (ruleFor neg r) n in record { magnitude = N % 2 ^ 64; exceeds = leb (2 ^ 64) N; ternary = ternaryFor (whole 1074) neg r n }

@@ -1,13 +1,10 @@
-// Rounding by a rule: low bits dropped from a magnitude, and a finite float rounded to a whole number.
+// Rounding by a rule: low bits dropped from a magnitude.
 ghost use mathlib.Core.Path.{_≡_};
-ghost use Prim.Native.Nat.{_*_, _^_, _<_, min};
+ghost use Prim.Native.Nat.{_^_, _<_, min};
 ghost use Rattle.grid.specs.Round.{ruleFor};
-ghost use Rattle.floats.specs.Form.{Canonical};
-ghost use Rattle.rounding.specs.Rounding.{incrementOf, Droppable, shifted, wholeOf};
-use floats::Scaled;
+ghost use Rattle.rounding.specs.Rounding.{incrementOf, Droppable, shifted};
 use grid::Rounded;
 use grid::RoundingMode;
-use grid::Ternary;
 
 // What is added to a magnitude before its low bits are dropped: q is the kept part, and ones is all ones in the dropped bits.
 fn increment(q: u64, ones: u64, mode: RoundingMode, negative: bool) -> u64
@@ -42,40 +39,4 @@ pub fn at_most_63(bits: u64) -> u32
     ensures { λ r. ⌜ r ≡ min bits 63 ⌝ }
 {
     if bits < 63 { bits as u32 } else { 63 }
-}
-
-// A whole number's magnitude modulo 2^64, whether the magnitude exceeds 64 bits, and where the number lies beside the one that was rounded.
-pub struct Whole {
-    pub magnitude: u64,
-    pub exceeds: bool,
-    pub ternary: Ternary,
-}
-
-// A finite magnitude of the given sign rounded to a whole number.
-pub fn round_to_whole(x: Scaled, mode: RoundingMode, negative: bool) -> Whole
-    requires { ⌜ Canonical x ⌝ }
-    ensures { λ r. ⌜ r ≡ wholeOf negative mode (x .significand * 2 ^ x .exponent) ⌝ }
-{
-    let exponent = x.exponent;
-    if exponent < 1074 {
-        let rounded = round_shift(x.significand, at_most_63(1074 - exponent), mode, negative);
-        let ternary = rounded.ternary;
-        return Whole {
-            magnitude: rounded.bits,
-            exceeds: false,
-            ternary: ternary,
-        };
-    }
-    if exponent < 1138 {
-        return Whole {
-            magnitude: x.significand << (exponent - 1074),
-            exceeds: 1085 < exponent,
-            ternary: Ternary::Exact,
-        };
-    }
-    Whole {
-        magnitude: 0,
-        exceeds: true,
-        ternary: Ternary::Exact,
-    }
 }

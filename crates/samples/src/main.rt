@@ -35,11 +35,11 @@ fn print_counts(c: Counts) {
 fn print_reply(r: Reply, d: &[u8]) {
     let a = r.answer;
     let c = r.counts;
-    let number = answers::number(a);
+    let number = answer_numbers::number(a);
     io::print_decimal(STDOUT_FILENO, wide(number));
-    if answers::names_position(number as usize) {
+    if answer_numbers::names_position(number as usize) {
         io::write_all(STDOUT_FILENO, b" at ");
-        io::print_decimal(STDOUT_FILENO, answers::position(a) as u64);
+        io::print_decimal(STDOUT_FILENO, answer_numbers::position(a) as u64);
     }
     io::write_all(STDOUT_FILENO, b": ");
     print_bytes(d);

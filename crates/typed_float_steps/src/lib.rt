@@ -9,8 +9,8 @@ ghost use Rattle.tallies.specs.Tally.{Countable};
 ghost use Rattle.typed_steps.specs.Loop.{outcomeFor, nextState, storedIn, TalliedBy};
 use answers::Fit;
 use answers::Lookup;
-use tallies::Tally;
 use kinds::Format;
+use tallies::Tally;
 use typed_states::State;
 
 // ---- f64 to f32

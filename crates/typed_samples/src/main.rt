@@ -38,10 +38,10 @@ fn print_reply(rounding: u8, range: u8, r: Reply) {
     io::write_all(STDOUT_FILENO, b" ");
     io::print_decimal(STDOUT_FILENO, wide(range));
     io::write_all(STDOUT_FILENO, b" ");
-    io::print_decimal(STDOUT_FILENO, wide(answers::number(a)));
-    if answers::names_position(answers::number(a) as usize) {
+    io::print_decimal(STDOUT_FILENO, wide(answer_numbers::number(a)));
+    if answer_numbers::names_position(answer_numbers::number(a) as usize) {
         io::write_all(STDOUT_FILENO, b" at ");
-        io::print_decimal(STDOUT_FILENO, answers::position(a) as u64);
+        io::print_decimal(STDOUT_FILENO, answer_numbers::position(a) as u64);
     }
     print_counts(c);
     io::write_all(STDOUT_FILENO, b":");

@@ -7,8 +7,8 @@ use answers::Answer;
 use answers::Outcome;
 use answers::Reply;
 use codes::OutOfRangeMode;
-use tallies::Tally;
 use grid::RoundingMode;
+use tallies::Tally;
 
 // What the loop of a typed call carries: whether an element is to be converted, its position and its pattern, the answer once the loop ends,
 // and what the call's codes say.

@@ -6,7 +6,7 @@ use Rattle.patterns.specs.Pattern.{lowBits}
 use Rattle.floats.specs.Form.{CanonicalClass}
 use Rattle.floats.specs.declared.Float.{Float}
 use Rattle.floats.proofs.Values.{f64-formed}
-use Rattle.rounding.specs.declared.Whole.{Whole}
+use Rattle.whole_numbers.specs.declared.Whole.{Whole}
 use Rattle.integral.proofs.WholeFloats.{no-number, wrapped-bits}
 use Rattle.integral.proofs.wrap_integral_f64.Statement.{statement}
 use Rattle.integral.proofs.wrap_integral_f64.Tie as tie

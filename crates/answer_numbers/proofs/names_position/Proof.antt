@@ -1,7 +1,7 @@
--- `answers::names_position` meets its contract: each way's tests are those of the definition.
+-- `answer_numbers::names_position` meets its contract: each way's tests are those of the definition.
 use borrow.Author.Tests.{le-leb, lt-leb}
-use Rattle.answers.proofs.names_position.Statement.{statement}
-use Rattle.answers.proofs.names_position.Tie as tie
+use Rattle.answer_numbers.proofs.names_position.Statement.{statement}
+use Rattle.answer_numbers.proofs.names_position.Tie as tie
 
 returns : tie.Need-returns
 returns c = simp (lt-leb 5 (c .before .args .number) (c .if1 .taken))

@@ -1,9 +1,9 @@
--- `answers::position` meets its contract.
+-- `answer_numbers::position` meets its contract.
 use mathlib.Core.Path.{sym, ap}
 use Rattle.answers.specs.Answer.{positionOf}
 use borrow.Author.Needs.{needs}
-use Rattle.answers.proofs.position.Statement.{statement}
-use Rattle.answers.proofs.position.Tie as tie
+use Rattle.answer_numbers.proofs.position.Statement.{statement}
+use Rattle.answer_numbers.proofs.position.Tie as tie
 
 returns-2 : tie.Need-returns-2
 returns-2 c = ap positionOf (sym (c .before .a2 .given .1))

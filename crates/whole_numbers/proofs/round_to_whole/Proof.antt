@@ -1,9 +1,9 @@
--- `rounding::round_to_whole` meets its contract: at each return the pick of a number with such an exponent.
+-- `whole_numbers::round_to_whole` meets its contract: at each return the pick of a number with such an exponent.
 use native.Mathlib.Omega.{arith}
 use borrow.Author.Needs.{needs}
-use Rattle.rounding.proofs.WholeNumbers.{drop-asks, low-is, up-is, high-is}
-use Rattle.rounding.proofs.round_to_whole.Statement.{statement}
-use Rattle.rounding.proofs.round_to_whole.Tie as tie
+use Rattle.whole_numbers.proofs.WholeNumbers.{drop-asks, low-is, up-is, high-is}
+use Rattle.whole_numbers.proofs.round_to_whole.Statement.{statement}
+use Rattle.whole_numbers.proofs.round_to_whole.Tie as tie
 
 round-shift-requires : tie.Need-round-shift-requires
 round-shift-requires c κs =

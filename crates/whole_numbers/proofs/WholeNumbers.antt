@@ -18,9 +18,10 @@ use Rattle.grid.proofs.Kept.{pick-exact}
 use Rattle.grid.proofs.Neighbours.{cut}
 use Rattle.grid.proofs.Sides.{exact-is}
 use Rattle.floats.specs.Form.{Canonical}
-use Rattle.rounding.specs.Rounding.{Droppable, shifted, unitsOf, wholeOf}
-use Rattle.rounding.specs.declared.Whole.{Whole}
+use Rattle.rounding.specs.Rounding.{Droppable, shifted, unitsOf}
+use Rattle.whole_numbers.specs.Whole.{wholeOf}
+use Rattle.whole_numbers.specs.declared.Whole.{Whole}
 use Rattle.rounding.proofs.Units.{below-unit, from-unit, unit-side, whole-times-unit}
 
 whole-at : (neg : Bool) (r : RoundingMode) (n N q : ℕ) (c : Bool) (t : Ternary) → unitsOf 1074 (ruleFor neg r) n ≡ N → N % 2 ^ 64 ≡ q → leb (2 ^ 64) N ≡ c → t ≡ ternaryFor (whole 1074) neg r n → record { magnitude = q; exceeds = c; ternary = t } ≡ wholeOf neg r n
 whole-at neg r n N q c t is d e f =
