@@ -38,8 +38,7 @@ use Rattle.floats.proofs.Forms.{scaled-only}
 use Rattle.floats.proofs.Values.{finite-value, scaled-canonical, scaled-whole}
 use Rattle.rounding.specs.Rounding.{unitsOf}
 use Rattle.rounding.proofs.Units.{whole-times-unit}
-use Rattle.wrapping.proofs.Residues.{low-bits-mod}
-use Rattle.integral.specs.Integral.{roundedFrom, roundedOf, wrappedFrom, wrappedOf}
+use Rattle.integral.specs.Integral.{roundedFrom, roundedOf}
 use Rattle.integral.specs.Whole.{integralOf}
 
 -- ---- a magnitude of p significant bits below the spacing 1
@@ -164,23 +163,3 @@ f16-top = record { m = (2 ^ 11 - 1) * 2 ^ 5; e = 1074; written = (refl, refl) }
 pub f32-top : OnMag (whole 1074) (bitsMag 24 925 (infBits 24 8 - 1))
 unfolding bitsMag
 f32-top = record { m = (2 ^ 24 - 1) * 2 ^ 104; e = 1074; written = (refl, refl) }
-
--- ---- the lowest bits of a whole part
-module _ (n b : ℕ) (x : Float) (is : x ≡ floatOf f64 b) where
-  pub no-number : OneOf (1 ∷ 2 ∷ []) (tagOf the-type (x .class)) → 0 ≡ wrappedOf n b
-  no-number t = go (valueOf f64 b) (subst (λ (f : Float). OneOf (1 ∷ 2 ∷ []) (tagOf the-type (f .class))) is t)
-    where
-      go : (v : Value) → OneOf (1 ∷ 2 ∷ []) (tagOf the-type (classFor f64 b v)) → 0 ≡ wrappedFrom n v
-      go (num y) t = absurd (⊎-elim (λ (e : _≡_ {A = ℕ} 0 1). omega arith) (λ (e : _≡_ {A = ℕ} 0 2). omega arith) t)
-      go (inf neg) t = refl
-      go nan t = refl
-
-  pub wrapped-bits : (m : Scaled) → x .class ≡ Finite m → n ≤ 64 → lowBits n (signed (x .negative) (unitsOf 1074 (ruleFor (x .negative) TowardsZero) (m .significand * 2 ^ m .exponent) % 2 ^ 64)) ≡ wrappedOf n b
-  wrapped-bits m finite most =
-      let neg = x .negative in
-      let r = ruleFor neg TowardsZero in
-      let u = m .significand * 2 ^ m .exponent in
-      low-bits-mod n neg (unitsOf 1074 r u) most
-      ∙ sym (whole-pattern false n neg false (unitsOf 1074 r u))
-      ∙ ap (λ (z : ℤ). patternOf (integer false n) false z) (sym (pick-signed (whole 1074) tt TowardsZero neg u ∙ ap (signed neg) (whole-times-unit r 1074 u)))
-      ∙ ap (wrappedFrom n) (sym (read-value 53 11 0 TowardsZero b x is (lit≤ tt) (lit< tt) (lit≤ tt) (le-refl _) (lit≤ tt) m finite))

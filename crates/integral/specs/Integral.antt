@@ -1,14 +1,12 @@
--- To be believed: a float rounded to a whole number, and an f64's whole part in an integer kind.
-use mathlib.Core.Bool.{false}
+-- To be believed: a float rounded to a whole number.
 use Prim.Native.Nat.{ℕ}
 use Rattle.grid.specs.Grid.{whole}
 use Rattle.grid.specs.Round.{pick}
 use Rattle.grid.specs.Ternary.{ternaryOf}
 use Rattle.grid.specs.declared.Rounded.{Rounded}
 use Rattle.grid.specs.declared.RoundingMode.{RoundingMode}
-use Rattle.grid.specs.declared.RoundingMode.the-variants.{TowardsZero}
 use Rattle.grid.specs.declared.Ternary.the-variants.{Exact}
-use Rattle.patterns.specs.Kind.{Kind, integer, f64}
+use Rattle.patterns.specs.Kind.{Kind}
 use Rattle.patterns.specs.Value.{Value, nan, inf, num, negative, valueOf}
 use Rattle.patterns.specs.Pattern.{patternOf}
 
@@ -20,12 +18,3 @@ roundedFrom k r b nan = record { bits = b; ternary = Exact }
 
 abbrev pub roundedOf : Kind → RoundingMode → ℕ → Rounded
 roundedOf k r b = roundedFrom k r b (valueOf k b)
-
--- the n lowest bits of a number's whole part; 0 where there is no number
-abbrev pub wrappedFrom : ℕ → Value → ℕ
-wrappedFrom n (num x) = patternOf (integer false n) false (pick (whole 1074) TowardsZero x)
-wrappedFrom n (inf neg) = 0
-wrappedFrom n nan = 0
-
-abbrev pub wrappedOf : ℕ → ℕ → ℕ
-wrappedOf n b = wrappedFrom n (valueOf f64 b)

@@ -1,11 +1,11 @@
-// A float rounded to a whole number in its own format, and the lowest bits of an f64's whole part.
+// A float rounded to a whole number in its own format.
 ghost use mathlib.Core.Path.{_≡_};
 ghost use Prim.Native.Nat.{_*_, _^_, _<_, _≤_};
 ghost use Rattle.patterns.specs.Kind.{binary, f16, f32, f64};
 ghost use Rattle.floats.specs.Form.{Canonical, CanonicalClass, floatOf};
 ghost use Rattle.float_range.specs.Range.{FormatBits};
 ghost use Rattle.narrowing.specs.Format.{Narrower};
-ghost use Rattle.integral.specs.Integral.{roundedOf, wrappedOf};
+ghost use Rattle.integral.specs.Integral.{roundedOf};
 ghost use Rattle.integral.specs.Whole.{integralOf, WholeTop};
 use floats::Class;
 use floats::Float;
@@ -97,19 +97,4 @@ pub fn round_with_mode_f16(b: u16, mode: RoundingMode) -> Rounded
     ensures { λ r. ⌜ r ≡ roundedOf f16 mode b ⌝ }
 {
     round_narrower(b as u64, floats::read_f16(b), 11, 5, 1050, mode)
-}
-
-// The lowest bits of an f64's whole part, two's complement; 0 for an infinity and a NaN, which have none.
-pub fn wrap_integral_f64(b: u64, bits: u32) -> u64
-    requires { ⌜ (0 < bits) × (bits ≤ 64) ⌝ }
-    ensures { λ r. ⌜ r ≡ wrappedOf bits b ⌝ }
-{
-    let x = floats::read_f64(b);
-    let negative = x.negative;
-    let class = x.class;
-    let Class::Finite(magnitude) = class else {
-        return 0;
-    };
-    let whole = whole_numbers::round_to_whole(magnitude, RoundingMode::TowardsZero, negative);
-    wrapping::wrap_magnitude(negative, whole.magnitude, bits)
 }

@@ -497,10 +497,10 @@ fn integer_ends() {
 fn wrapped(b: u64) {
     text(b"wrap_integral_f64");
     number(b, 16);
-    number(integral::wrap_integral_f64(b, 8), 2);
-    number(integral::wrap_integral_f64(b, 16), 4);
-    number(integral::wrap_integral_f64(b, 32), 8);
-    number(integral::wrap_integral_f64(b, 64), 16);
+    number(whole_part::wrap_integral_f64(b, 8), 2);
+    number(whole_part::wrap_integral_f64(b, 16), 4);
+    number(whole_part::wrap_integral_f64(b, 32), 8);
+    number(whole_part::wrap_integral_f64(b, 64), 16);
     end();
 }
 

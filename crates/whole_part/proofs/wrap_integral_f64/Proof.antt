@@ -1,4 +1,4 @@
--- `integral::wrap_integral_f64` meets its contract: a magnitude modulo 2^64 has the same lowest bits.
+-- `whole_part::wrap_integral_f64` meets its contract: a magnitude modulo 2^64 has the same lowest bits.
 use mathlib.Core.Path.{ap, subst, sym, _∙_}
 use borrow.Author.Needs.{needs}
 use Rattle.grid.specs.Round.{signed}
@@ -7,9 +7,9 @@ use Rattle.floats.specs.Form.{CanonicalClass}
 use Rattle.floats.specs.declared.Float.{Float}
 use Rattle.floats.proofs.Values.{f64-formed}
 use Rattle.whole_numbers.specs.declared.Whole.{Whole}
-use Rattle.integral.proofs.WholeFloats.{no-number, wrapped-bits}
-use Rattle.integral.proofs.wrap_integral_f64.Statement.{statement}
-use Rattle.integral.proofs.wrap_integral_f64.Tie as tie
+use Rattle.whole_part.proofs.WholeParts.{no-number, wrapped-bits}
+use Rattle.whole_part.proofs.wrap_integral_f64.Statement.{statement}
+use Rattle.whole_part.proofs.wrap_integral_f64.Tie as tie
 
 returns : tie.Need-returns
 returns c =
