@@ -1,13 +1,13 @@
 -- A number of a float format rounded to a whole number is a number of that format, has the pattern of the pick, and lies where it does.
 use mathlib.Core.Path.{_≡_, refl, sym, ap, ap₂, subst, _∙_}
-use mathlib.Core.Bool.{Bool, false}
+use mathlib.Core.Bool.{Bool}
 use mathlib.Core.List.{[], _∷_}
 use mathlib.Core.Logic.{⊎-elim}
 use Prim.Native.Nat.{ℕ, _+_, _-_, _*_, _%_, _^_, _≤_, _<_}
 use native.Mathlib.Nat.{le-of-eq, le-of-lt, le-of-mul-le-mul-right, le-refl, le-trans, lt-of-le-of-lt, mod-eq-of-lt, mul-le-mul-right}
 use native.Mathlib.Omega.{arith}
 use lib.Dec.{lit<, lit≤}
-use lib.IntN.{ℤ, natAbs}
+use lib.IntN.{natAbs}
 use lib.Pow.{pow-add, pow-mono, pow-pos, shl-lt}
 use denote.Enum.Declared.{tagOf}
 use types.Run.{OneOf}
@@ -16,7 +16,6 @@ use Rattle.grid.specs.Round.{pickMag, ruleFor, signed}
 use Rattle.grid.specs.Ternary.{ternaryOf, ternaryFor}
 use Rattle.grid.specs.declared.Rounded.{Rounded}
 use Rattle.grid.specs.declared.RoundingMode.{RoundingMode}
-use Rattle.grid.specs.declared.RoundingMode.the-variants.{TowardsZero}
 use Rattle.grid.specs.declared.Ternary.{Ternary}
 use Rattle.grid.specs.declared.Ternary.the-variants.{Exact}
 use Rattle.grid.proofs.Kept.{pick-exact, pick-signed}
@@ -24,10 +23,10 @@ use Rattle.grid.proofs.Neighbours.{cut, finer, pow-twice-pred}
 use Rattle.grid.proofs.Picked.{picked-pos, pickMag-mono}
 use Rattle.grid.proofs.Sides.{exact-is}
 use Rattle.patterns.specs.Float.{bitsMag, infBits}
-use Rattle.patterns.specs.Kind.{Kind, binary, integer, f64}
-use Rattle.patterns.specs.Pattern.{lowBits, magBits, patternOf, withSign}
+use Rattle.patterns.specs.Kind.{Kind, binary}
+use Rattle.patterns.specs.Pattern.{magBits, patternOf, withSign}
 use Rattle.patterns.specs.Value.{Value, nan, inf, num, negative, valueOf}
-use Rattle.patterns.proofs.AnyKind.{largest-bits, whole-pattern}
+use Rattle.patterns.proofs.AnyKind.{largest-bits}
 use Rattle.patterns.proofs.Floats.{abs-signed, number-of-format}
 use Rattle.floats.specs.Form.{Canonical, classFor, floatOf, scaledOf}
 use Rattle.floats.specs.declared.Class.the-variants.{Finite}

@@ -2,7 +2,7 @@
 use mathlib.Core.Path.{_≡_}
 use mathlib.Core.Bool.{Bool, true, false}
 use mathlib.Core.Logic.{_⊎_}
-use Prim.Native.Nat.{ℕ, _+_, _-_, _^_, _≤_, _<_}
+use Prim.Native.Nat.{ℕ, _-_, _≤_, _<_}
 use Rattle.patterns.specs.Kind.{Kind, integer, binary, width, lowInt, highInt}
 use Rattle.patterns.specs.Pattern.{asF64, infinity}
 use Rattle.kinds.specs.declared.IntegerFormat.{IntegerFormat}

@@ -2,10 +2,10 @@
 use mathlib.Core.Path.{_≡_, refl, sym, ap, ap₂, _∙_}
 use Prim.Native.Nat.{ℕ, zero, suc, _+_, _-_, _*_, _/_, _%_, _^_, _≤_, _<_}
 use native.Mathlib.Decide.{le-ind}
-use native.Mathlib.Nat.{le-refl, le-of-eq, lt-of-lt-of-le, lt-of-le-of-lt, mul-lt-mul-of-pos-right, div-add-mod', mod-lt, zero-add, suc-add, lt-trans, zero-mul, le-antisymm, le-of-lt, pow-succ', suc-mul}
+use native.Mathlib.Nat.{le-refl, le-of-eq, lt-of-lt-of-le, lt-of-le-of-lt, mul-lt-mul-of-pos-right, div-add-mod', mod-lt, zero-add, suc-add, lt-trans, zero-mul, le-antisymm, le-of-lt, pow-succ'}
 use native.Mathlib.Omega.{arith}
 use lib.Arith.{digits-div, digits-mod}
-use lib.Pow.{pow-pos, pow-add}
+use lib.Pow.{pow-pos}
 use Rattle.patterns.specs.Float.{fieldMag, bitsMag}
 use Rattle.grid.proofs.Neighbours.{cut, pow-twice-pred}
 

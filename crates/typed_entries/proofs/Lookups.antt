@@ -49,7 +49,7 @@ use denote.Struct.Laws as LL
 use denote.Triple.Statement.{Contract, Triple}
 use denote.Struct.Declared.{Declared, row, fields}
 use denote.Index.{place-is, elem-out, elem-back, looks-slice, shuts-slice}
-use Rattle.patterns.specs.Kind.{Kind, bits}
+use Rattle.patterns.specs.Kind.{Kind}
 use Rattle.patterns.specs.Value.{valueOf}
 use Rattle.answers.specs.declared.Lookup.{Lookup}
 use Rattle.answers.specs.declared.Lookup.the-variants.{Found, Missing}
