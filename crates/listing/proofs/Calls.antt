@@ -1,7 +1,7 @@
 -- The chunk call into a lent buffer, and its report.
 use mathlib.Core.Path.{_≡_, sym, ap, ap₂, subst, _∙_}
 use mathlib.Core.List.{List, _++_}
-use Prim.Native.Nat.{ℕ, _+_, _*_, _/_, _≤_, _<_}
+use Prim.Native.Nat.{ℕ, _+_, _*_, _/_, _≤_}
 use native.Mathlib.Nat.{le-of-eq, le-trans, mul-le-mul, div-le-self}
 use native.Mathlib.Omega.{arith}
 use lib.ListN.{length, take, drop, replicate, length-append, length-replicate}
@@ -16,26 +16,14 @@ use Rattle.kinds.specs.declared.KindRow.{KindRow}
 use Rattle.kinds.proofs.Listed.{row-width}
 use Rattle.cast_spec.specs.Chunk.{Inputs, inputs, answerOf, destinationOf}
 use Rattle.cast_spec.specs.Contract.{Contract}
-use Rattle.cast_spec.proofs.Widths.{listed-width, width-pos}
 use Rattle.text.specs.Wrote.{Wrote}
 use Rattle.report.specs.Report.{report}
 use Rattle.report.specs.Room.{ReportFits}
-use Rattle.listing.specs.Listing.{reportOf, chunkOf}
-use Rattle.bytes_le.specs.Bytes.{Width}
-use Rattle.bytes_le.proofs.Widths.{width-most}
-use Rattle.listing.specs.Layouts.{CallFits}
+use Rattle.listing_input.specs.Input.{chunkOf}
+use Rattle.listing.specs.Listing.{reportOf}
+use Rattle.listing_input.proofs.Parts.{row-listed, row-most}
+use Rattle.listing.specs.Room.{CallFits}
 use Rattle.listing.proofs.Unchanged.{position-counted, same-report}
-
--- ---- the widths of listed kinds
-module _ (code : ℕ) (listed : code < 11) (row : KindRow) (is : row ≡ rowOf (kindOf code)) where
-  pub row-listed : Width (row .bytes)
-  row-listed = subst Width (sym (row-width (kindOf code) row is)) (listed-width code listed)
-
-  pub row-most : row .bytes ≤ 8
-  row-most = width-most row-listed
-
-  pub row-some : 0 < row .bytes
-  row-some = subst (λ (z : ℕ). 0 < z) (sym (row-width (kindOf code) row is)) (width-pos code listed)
 
 -- ---- n elements of w bytes, each of at most 8, of at most 8,186 bytes of source
 pub destination-most : (n w : ℕ) → n ≤ 8186 → w ≤ 8 → n * w ≤ 65488

@@ -12,7 +12,8 @@ use Rattle.bytes_le.specs.Bytes.{toLe}
 use Rattle.cast_spec.specs.Element.{beyond, outcomeOf}
 use Rattle.cast_spec.specs.Chunk.{settingsOf, callOf, outcomeAt, answerOf, destinationOf}
 use Rattle.report.specs.Report.{ok, refused, at, newline}
-use Rattle.listing.specs.Listing.{refusalOf, listingOf}
+use Rattle.listing_input.specs.Input.{refusalOf}
+use Rattle.listing.specs.Listing.{listingOf}
 
 pub record Sample : Type 0 where
   pub input : List ℕ

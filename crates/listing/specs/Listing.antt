@@ -1,68 +1,16 @@
--- To be believed: what `castlist` prints, over the bytes s that it reads alone. They are at most 8,193: the last of those tells that there is more.
+-- To be believed: what `castlist` prints, over the bytes s that it reads alone.
 use mathlib.Core.Path.{_≡_}
-use mathlib.Core.Bool.{_&&_, cond}
+use mathlib.Core.Bool.{cond}
 use mathlib.Core.List.{List, _++_}
-use Prim.Native.Nat.{ℕ, _+_, _*_, _/_, _≤_}
-use lib.Dec.{eqb, ltb, leb}
-use lib.ListN.{length, getD, take, drop, replicate}
-use Rattle.bytes_le.specs.Bytes.{fromLe}
-use Rattle.patterns.specs.Kind.{width}
-use Rattle.kinds.specs.Table.{kindOf}
-use Rattle.cast_spec.specs.Chunk.{Inputs, inputs, sw, dw, codesListed, wrapPermitted, answerOf, destinationOf}
+use Prim.Native.Nat.{ℕ, _/_, _≤_}
+use lib.Dec.{eqb}
+use lib.ListN.{length, drop}
+use Rattle.cast_spec.specs.Chunk.{Inputs, sw, dw, answerOf, destinationOf}
 use Rattle.report.specs.Report.{refusedLine, report}
-
--- the chunk call into zeros, as many elements as the source; what stands there before the call shows in no line
-abbrev pub chunkOf : List ℕ → List ℕ → List ℕ → ℕ → ℕ → ℕ → ℕ → Inputs
-chunkOf source keys targets from to rounding range =
-    inputs source (replicate (length source / width (kindOf from) * width (kindOf to)) 0) keys targets from to rounding range
-
--- ---- "source kind, target kind, rounding, range (a byte each), entry count (16 bits, low byte first), the keys, the targets, then the elements"
-module _ (s : List ℕ) where
-  -- the widths of a source and of a target element
-  abbrev pub sourceWidth : ℕ
-  sourceWidth = width (kindOf (getD s 0 0))
-
-  abbrev pub targetWidth : ℕ
-  targetWidth = width (kindOf (getD s 1 0))
-
-  abbrev pub entries : ℕ
-  entries = fromLe (take 2 (drop 4 s))
-
-  -- the places where the keys and the targets end
-  abbrev pub keysEnd : ℕ
-  keysEnd = 6 + entries * sourceWidth
-
-  abbrev pub mapEnd : ℕ
-  mapEnd = keysEnd + entries * targetWidth
-
-  abbrev pub keys : List ℕ
-  keys = take (entries * sourceWidth) (drop 6 s)
-
-  abbrev pub targets : List ℕ
-  targets = take (entries * targetWidth) (drop keysEnd s)
-
-  abbrev pub elements : List ℕ
-  elements = drop mapEnd s
-
-  abbrev pub call : Inputs
-  call = chunkOf elements keys targets (getD s 0 0) (getD s 1 0) (getD s 2 0) (getD s 3 0)
+use Rattle.listing_input.specs.Input.{call, refusalOf}
 
 abbrev pub reportOf : Inputs → List ℕ
 reportOf I = report (answerOf I) (length (I .source) / sw I) (dw I) (destinationOf I)
-
--- ---- "Fewer than six bytes prints `refused 1`, missing map bytes `refused 2`, a broken last element or longer input `refused 3`;
--- a bad code comes before these last two. A map reaching past byte 8,192 counts as missing."
--- 8 comes "directly after 1". The number that an input is refused with before its call, or 0. The chunk call refuses a broken last element, as 3.
-unfoldable pub refusalOf : List ℕ → ℕ
-refusalOf s =
-    cond (ltb (length s) 6) 1
-    (cond (codesListed (call s))
-    (cond (wrapPermitted (call s))
-    (cond (leb (mapEnd s) 8192 && leb (mapEnd s) (length s))
-    (cond (leb (length s) 8192) 0 3)
-    2)
-    8)
-    1)
 
 unfoldable pub listingOf : List ℕ → List ℕ
 listingOf s = cond (eqb (refusalOf s) 0) (reportOf (call s)) (refusedLine (refusalOf s) 0)

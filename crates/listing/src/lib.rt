@@ -3,14 +3,9 @@ ghost use mathlib.Core.Path.{_≡_};
 ghost use Prim.Native.Nat.{_≤_};
 ghost use lib.ListN.{length, take};
 ghost use Rattle.text.specs.Wrote.{Wrote};
-ghost use Rattle.listing.specs.Listing.{chunkOf, reportOf, refusalOf, listingOf, Listed};
-ghost use Rattle.listing.specs.Layouts.{HeadIn, CallFits, layoutOf};
-
-// The places of an input where the targets and the elements start.
-struct Layout {
-    targets: usize,
-    elements: usize,
-}
+ghost use Rattle.listing_input.specs.Input.{chunkOf};
+ghost use Rattle.listing.specs.Listing.{reportOf, listingOf, Listed};
+ghost use Rattle.listing.specs.Room.{CallFits};
 
 // Converts a chunk by listed kinds into work and puts the report, and returns the place after it.
 fn put_call(
@@ -44,57 +39,16 @@ fn put_call(
     report::put_report(out, &work[..size], answer, n, w)
 }
 
-// Where the parts of an input start whose kinds are listed.
-fn layout_of(input: &[u8]) -> Layout
-    requires { ⌜ HeadIn (now input) ⌝ }
-    ensures { λ r. ⌜ r ≡ layoutOf (now (input .entry)) ⌝ }
-{
-    let sw = kinds::row_of(input[0]).bytes;
-    let dw = kinds::row_of(input[1]).bytes;
-    let entries = bytes_le::read_le(input, 4, 2) as usize;
-    let targets = 6 + entries * sw;
-    Layout {
-        targets: targets,
-        elements: targets + entries * dw,
-    }
-}
-
-// The number that an input is refused with before its call, or 0.
-fn refusal(input: &[u8]) -> usize
-    ensures { λ r. ⌜ r ≡ refusalOf (now (input .entry)) ⌝ }
-{
-    if input.len() < 6 {
-        return 1;
-    }
-    if !codes::codes_listed(input[0], input[1], input[2], input[3]) {
-        return 1;
-    }
-    if codes::wrap_barred(input[1], input[3]) {
-        return 8;
-    }
-    let map_end = layout_of(input).elements;
-    if 8192 < map_end {
-        return 2;
-    }
-    if input.len() < map_end {
-        return 2;
-    }
-    if 8192 < input.len() {
-        return 3;
-    }
-    0
-}
-
 // Puts the listing of an input into a buffer that is long enough, and returns its length.
 fn put_listing(input: &[u8], work: &mut [u8], out: &mut [u8]) -> usize
     requires { ⌜ (65488 ≤ length (now work)) × (139180 ≤ length (now out)) ⌝ }
     ensures { λ r. ⌜ Wrote (now (out .entry)) 0 (listingOf (now (input .entry))) r (now (out .exit)) ⌝ }
 {
-    let number = refusal(input);
+    let number = listing_input::refusal(input);
     if number != 0 {
         return report::put_refused(out, number, 0);
     }
-    let l = layout_of(input);
+    let l = listing_input::layout_of(input);
     let targets = l.targets;
     let elements = l.elements;
     put_call(

@@ -1,7 +1,8 @@
 -- `listing::put_call` meets its contract: the report of the call into the lent bytes is that of the call into zeros.
 use native.Mathlib.Omega.{arith}
 use denote.Ref.{now}
-use Rattle.listing.proofs.Calls.{row-some, size-most, size-within, size-lent, size-back, size-relent, report-asks, call-reported}
+use Rattle.listing_input.proofs.Parts.{row-some}
+use Rattle.listing.proofs.Calls.{size-most, size-within, size-lent, size-back, size-relent, report-asks, call-reported}
 use borrow.Author.Needs.{needs}
 use Rattle.listing.proofs.put_call.Statement.{statement}
 use Rattle.listing.proofs.put_call.Tie as tie

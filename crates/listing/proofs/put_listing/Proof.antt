@@ -6,8 +6,9 @@ use native.Mathlib.Nat.{le-trans}
 use native.Mathlib.Omega.{arith}
 use denote.Ref.{now}
 use Rattle.text.proofs.Writes.{wrote-as}
-use Rattle.listing.specs.Listing.{refusalOf}
-use Rattle.listing.proofs.Exits.{six, taken-head, elements-within, six-first, targets-first, call-asks, call-listed, refusal-small, refusal-listed}
+use Rattle.listing_input.specs.Input.{refusalOf}
+use Rattle.listing_input.proofs.Exits.{six, taken-head, refusal-small}
+use Rattle.listing.proofs.Exits.{elements-within, six-first, targets-first, call-asks, call-listed, refusal-listed}
 use borrow.Author.Needs.{needs}
 use Rattle.listing.proofs.put_listing.Statement.{statement}
 use Rattle.listing.proofs.put_listing.Tie as tie

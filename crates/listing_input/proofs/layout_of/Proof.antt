@@ -1,11 +1,11 @@
--- `listing::layout_of` meets its contract: the widths are those of the rows, and the entry count is two bytes.
+-- `listing_input::layout_of` meets its contract: the widths are those of the rows, and the entry count is two bytes.
 use Prim.Native.Nat.{_*_, _≤_}
 use native.Mathlib.Omega.{arith}
 use denote.Ref.{now}
-use Rattle.listing.proofs.Exits.{count-place, keys-small, targets-small, laid-out}
+use Rattle.listing_input.proofs.Parts.{count-place, keys-small, targets-small, laid-out}
 use borrow.Author.Needs.{needs}
-use Rattle.listing.proofs.layout_of.Statement.{statement}
-use Rattle.listing.proofs.layout_of.Tie as tie
+use Rattle.listing_input.proofs.layout_of.Statement.{statement}
+use Rattle.listing_input.proofs.layout_of.Tie as tie
 
 read-le-requires : tie.Need-read-le-requires
 read-le-requires c κs = let t = c .before .before .before .before .before in count-place (now (t .args .input)) (t .pre)

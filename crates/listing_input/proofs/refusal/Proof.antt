@@ -1,4 +1,4 @@
--- `listing::refusal` meets its contract: each way out is a case of the definition.
+-- `listing_input::refusal` meets its contract: each way out is a case of the definition.
 use mathlib.Core.Path.{_≡_, sym, ap, _∙_}
 use mathlib.Core.Bool.{true, not}
 use mathlib.Core.List.{List}
@@ -7,12 +7,12 @@ use lib.ListN.{length}
 use denote.Ref.{now}
 use borrow.Author.Tests.{not-true, not-false}
 use Rattle.cast_spec.specs.Chunk.{codesListed, wrapPermitted}
-use Rattle.listing.specs.declared.Layout.{Layout}
-use Rattle.listing.specs.Listing.{mapEnd, call}
-use Rattle.listing.proofs.Exits.{short, unlisted, head-in, barred, map-past, map-missing, longer, none}
+use Rattle.listing_input.specs.declared.Layout.{Layout}
+use Rattle.listing_input.specs.Input.{mapEnd, call}
+use Rattle.listing_input.proofs.Exits.{short, unlisted, head-in, barred, map-past, map-missing, longer, none}
 use borrow.Author.Needs.{needs}
-use Rattle.listing.proofs.refusal.Statement.{statement}
-use Rattle.listing.proofs.refusal.Tie as tie
+use Rattle.listing_input.proofs.refusal.Statement.{statement}
+use Rattle.listing_input.proofs.refusal.Tie as tie
 
 -- ---- the input, and what the checks show
 abbrev start : tie.After-codes-listed → List ℕ
