@@ -373,7 +373,7 @@ fn narrow(b: u64, to: FloatFormat, mode: RoundingMode)
     requires { ⌜ FloatRow to ⌝ }
 {
     let x = floats::read_f64(b);
-    put_fit(conversions::convert_float_to_float(x, to, mode, OutOfRangeMode::None));
+    put_fit(float_conversions::convert_float_to_float(x, to, mode, OutOfRangeMode::None));
 }
 
 fn narrowed(b: u64, to: FloatFormat)

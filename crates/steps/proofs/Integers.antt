@@ -14,7 +14,7 @@ use Rattle.cast_spec.specs.Fit.{fitOf, unmapped}
 use Rattle.cast_spec.proofs.Filled.{fit-any}
 use Rattle.integers.specs.Magnitude.{IntegerPattern, magnitudeOf}
 use Rattle.integers.specs.declared.Integer.{Integer}
-use Rattle.conversions.specs.Fit.{fitInteger}
+use Rattle.integer_conversions.specs.Fit.{fitInteger}
 use Rattle.element.proofs.Integers.{number-is, numberOf, sign-is}
 
 module _ (b : ℕ) (s : Bool) (n : ℕ) (h : IntegerPattern b n) where

@@ -21,7 +21,7 @@ use Rattle.integers.specs.Magnitude.{IntegerPattern, magnitudeOf}
 use Rattle.integers.specs.declared.Integer as I
 use Rattle.cast_spec.specs.Fit.{fitOf, unmapped}
 use Rattle.narrowing.specs.Fit.{fitFloat}
-use Rattle.conversions.specs.Fit.{fitInteger}
+use Rattle.integer_conversions.specs.Fit.{fitInteger}
 use Rattle.element.specs.Element.{FloatPattern}
 use Rattle.steps.specs.Steps.{foundFit, stepped}
 use Rattle.steps.proofs.FloatForms.{form-to-integer, f64-to-float, narrower-to-f64, narrower-to-narrower}

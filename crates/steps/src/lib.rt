@@ -4,7 +4,7 @@ ghost use Rattle.grid.specs.declared.RoundingMode.{RoundingMode};
 ghost use Rattle.kinds.specs.Row.{integerOf, floatOf, IntegerRow, FloatRow};
 ghost use Rattle.floats.specs.Form.{CanonicalClass};
 ghost use Rattle.narrowing.specs.Fit.{fitFloat};
-ghost use Rattle.conversions.specs.Fit.{fitInteger};
+ghost use Rattle.integer_conversions.specs.Fit.{fitInteger};
 ghost use Rattle.steps.specs.Steps.{foundFit};
 use answers::Fit;
 use answers::Lookup;
@@ -23,7 +23,7 @@ pub fn step_int_to_int(x: Integer, found: Lookup, to: IntegerFormat, range: OutO
     if let Lookup::Found(pattern) = found {
         return answers::mapped(pattern);
     }
-    conversions::convert_int_to_int(x, to, range)
+    integer_conversions::convert_int_to_int(x, to, range)
 }
 
 // From an integer kind to a float kind.
@@ -40,7 +40,7 @@ pub fn step_int_to_float(
     if let Lookup::Found(pattern) = found {
         return answers::mapped(pattern);
     }
-    conversions::convert_int_to_float(x, to, mode, range)
+    integer_conversions::convert_int_to_float(x, to, mode, range)
 }
 
 // From a float kind to an integer kind.
@@ -57,7 +57,7 @@ pub fn step_float_to_int(
     if let Lookup::Found(pattern) = found {
         return answers::mapped(pattern);
     }
-    conversions::convert_float_to_int(x, to, mode, range)
+    float_conversions::convert_float_to_int(x, to, mode, range)
 }
 
 // From a float kind to a float kind.
@@ -74,5 +74,5 @@ pub fn step_float_to_float(
     if let Lookup::Found(pattern) = found {
         return answers::mapped(pattern);
     }
-    conversions::convert_float_to_float(x, to, mode, range)
+    float_conversions::convert_float_to_float(x, to, mode, range)
 }

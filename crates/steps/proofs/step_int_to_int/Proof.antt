@@ -2,7 +2,7 @@
 use mathlib.Core.Path.{_∙_}
 use borrow.Author.Needs.{needs}
 use Rattle.kinds.specs.Row.{integerOf}
-use Rattle.conversions.specs.Fit.{fitInteger}
+use Rattle.integer_conversions.specs.Fit.{fitInteger}
 use Rattle.steps.proofs.Found.{found-fit, missing-fit}
 use Rattle.steps.proofs.step_int_to_int.Statement.{statement}
 use Rattle.steps.proofs.step_int_to_int.Tie as tie

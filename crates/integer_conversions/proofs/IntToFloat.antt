@@ -34,7 +34,7 @@ use Rattle.narrowing.specs.Format.{Narrower}
 use Rattle.rebiasing.specs.Rebiased.{Rebiasable, rebiased}
 use Rattle.float_range.proofs.Fits.{bits-fit, number-fit}
 use Rattle.rebiasing.proofs.Exact.{rebias-exact, rebiasable}
-use Rattle.conversions.specs.Fit.{fitInteger}
+use Rattle.integer_conversions.specs.Fit.{fitInteger}
 
 module _ (x : Integer) (small : x .magnitude < 2 ^ 64) (mode : RoundingMode) (range : OutOfRangeMode) (rounded : Rounded) where
   abbrev r : RoundingMode

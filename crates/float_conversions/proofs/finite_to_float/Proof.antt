@@ -1,4 +1,4 @@
--- `conversions::finite_to_float` meets its contract: the f64 of the number, or its narrowing to the row.
+-- `float_conversions::finite_to_float` meets its contract: the f64 of the number, or its narrowing to the row.
 use mathlib.Core.Path.{sym, ap, _∙_}
 use Prim.Native.Nat.{ℕ, _*_, _^_}
 use native.Mathlib.Omega.{arith}
@@ -13,10 +13,10 @@ use Rattle.answers.specs.declared.Fit.the-variants.{Pattern}
 use Rattle.cast_spec.specs.Fit.{fitNumber}
 use Rattle.float_fields.proofs.Signs.{signed-sum, signed-fits}
 use Rattle.kinds.proofs.FloatRows.{double}
-use Rattle.conversions.proofs.Rows.{row-narrower}
-use Rattle.conversions.proofs.ToF64.{finite-to-f64}
-use Rattle.conversions.proofs.finite_to_float.Statement.{statement}
-use Rattle.conversions.proofs.finite_to_float.Tie as tie
+use Rattle.narrowing.proofs.Rows.{row-narrower}
+use Rattle.float_conversions.proofs.ToF64.{finite-to-f64}
+use Rattle.float_conversions.proofs.finite_to_float.Statement.{statement}
+use Rattle.float_conversions.proofs.finite_to_float.Tie as tie
 
 add-exact : tie.Need-add-exact
 add-exact c =

@@ -1,4 +1,4 @@
--- `conversions::convert_int_to_float` meets its contract: the f64 is the pick, and its bits are rebiased with nothing rounded.
+-- `integer_conversions::convert_int_to_float` meets its contract: the f64 is the pick, and its bits are rebiased with nothing rounded.
 use mathlib.Core.Path.{_≡_, sym, ap, _∙_}
 use Prim.Native.Nat.{ℕ}
 use native.Mathlib.Omega.{arith}
@@ -12,12 +12,13 @@ use Rattle.answers.specs.declared.Fit.the-variants.{Pattern}
 use Rattle.float_fields.proofs.Signs.{signed-sum, signed-fits}
 use Rattle.integers.specs.Precision.{roundedBits}
 use Rattle.integers.proofs.Bounds.{pick-bits-lt}
-use Rattle.conversions.specs.Fit.{fitInteger}
+use Rattle.integer_conversions.specs.Fit.{fitInteger}
 use Rattle.kinds.proofs.FloatRows.{double}
-use Rattle.conversions.proofs.IntToFloat.{integer-to-f64, integer-rebiasable, integer-narrowed}
-use Rattle.conversions.proofs.Rows.{row-precision, row-narrower, row-fine, row-early}
-use Rattle.conversions.proofs.convert_int_to_float.Statement.{statement}
-use Rattle.conversions.proofs.convert_int_to_float.Tie as tie
+use Rattle.narrowing.proofs.Rows.{row-narrower}
+use Rattle.integer_conversions.proofs.IntToFloat.{integer-to-f64, integer-rebiasable, integer-narrowed}
+use Rattle.integer_conversions.proofs.Rows.{row-precision, row-fine, row-early}
+use Rattle.integer_conversions.proofs.convert_int_to_float.Statement.{statement}
+use Rattle.integer_conversions.proofs.convert_int_to_float.Tie as tie
 
 -- the pick at the row's precision
 rounded-at : (c : tie.After-int-to-f64-magnitude) (p : ℕ) → c .before .args .to .precision ≡ p → let a = c .before .args in c .int-to-f64-magnitude .result ≡ roundedBits p (a .x .negative) (a .mode) (a .x .magnitude)

@@ -19,7 +19,7 @@ use Rattle.cast_spec.specs.Element.{ranged}
 use Rattle.cast_spec.specs.Fit.{fitOf}
 use Rattle.integers.specs.declared.Integer.{Integer}
 use Rattle.integer_range.specs.Range.{RangeApplied}
-use Rattle.conversions.specs.Fit.{fitInteger}
+use Rattle.integer_conversions.specs.Fit.{fitInteger}
 
 abbrev numberOf : Integer → ℤ
 numberOf x = signed (x .negative) (x .magnitude * 2 ^ 1074)

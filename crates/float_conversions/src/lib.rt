@@ -1,21 +1,17 @@
-// The four element conversions, from the inner form of an element to the pattern of a kind's format.
+// A float element to an integer kind and to a float kind, from its sign and class to the pattern of the kind's format.
 ghost use mathlib.Core.Path.{_≡_};
 ghost use Prim.Native.Nat.{_*_, _^_};
 ghost use Rattle.grid.specs.Round.{signed};
-ghost use Rattle.grid.specs.declared.RoundingMode.{RoundingMode};
 ghost use Rattle.kinds.specs.Row.{integerOf, floatOf, IntegerRow, FloatRow};
 ghost use Rattle.cast_spec.specs.Fit.{fitNumber};
 ghost use Rattle.floats.specs.Form.{Canonical, CanonicalClass};
 ghost use Rattle.narrowing.specs.Fit.{fitFloat};
-ghost use Rattle.conversions.specs.Fit.{fitInteger};
 use answers::Fit;
 use codes::OutOfRangeMode;
 use floats::Class;
 use floats::Float;
 use floats::Scaled;
 use grid::RoundingMode;
-use grid::Ternary;
-use integers::Integer;
 use kinds::FloatFormat;
 use kinds::IntegerFormat;
 
@@ -37,14 +33,6 @@ pub fn convert_float_to_int(
     let whole = whole_numbers::round_to_whole(magnitude, mode, negative);
     let ternary = whole.ternary;
     integer_range::apply_range(negative, whole.magnitude, whole.exceeds, ternary, to, range)
-}
-
-// An integer to an integer kind; nothing is rounded.
-pub fn convert_int_to_int(x: Integer, to: IntegerFormat, range: OutOfRangeMode) -> Fit
-    requires { ⌜ IntegerRow to ⌝ }
-    ensures { λ r. ⌜ ((mode : RoundingMode) → r ≡ fitInteger (integerOf to) mode range x) ⌝ }
-{
-    integer_range::apply_range(x.negative, x.magnitude, false, Ternary::Exact, to, range)
 }
 
 // A finite float of the given sign to a float kind; to f64 it is exact.
@@ -85,36 +73,5 @@ pub fn convert_float_to_float(
     match precision {
         53 => answers::exact(floats::write_f64(x)),
         _ => answers::exact(narrowing::narrow_special(x, precision, to.exponent_bits)),
-    }
-}
-
-// An integer to a float kind: rounded once, from its own bits, to the target's precision, as the f64 that is the pick.
-pub fn convert_int_to_float(
-    x: Integer,
-    to: FloatFormat,
-    mode: RoundingMode,
-    range: OutOfRangeMode,
-) -> Fit
-    requires { ⌜ FloatRow to ⌝ }
-    ensures { λ r. ⌜ r ≡ fitInteger (floatOf to) mode range x ⌝ }
-{
-    let negative = x.negative;
-    let precision = to.precision;
-    let rounded = integers::int_to_f64_magnitude(x.magnitude, negative, precision, mode);
-    let ternary = rounded.ternary;
-    match precision {
-        53 => Fit::Pattern {
-            pattern: float_fields::sign_bit(negative, 63) + rounded.bits,
-            fared: counts::by_pick(ternary),
-        },
-        _ => rebiasing::fit_rebiased(
-            rounded.bits,
-            ternary,
-            negative,
-            precision,
-            to.exponent_bits,
-            to.spacing,
-            range,
-        ),
     }
 }

@@ -1,10 +1,10 @@
--- `conversions::convert_float_to_int` meets its contract: not finite, or the range step of the whole number that it is rounded to.
+-- `float_conversions::convert_float_to_int` meets its contract: not finite, or the range step of the whole number that it is rounded to.
 use mathlib.Core.Path.{subst}
 use borrow.Author.Needs.{needs}
 use Rattle.floats.specs.Form.{CanonicalClass}
-use Rattle.conversions.proofs.FloatToInt.{not-finite, rounded-fit}
-use Rattle.conversions.proofs.convert_float_to_int.Statement.{statement}
-use Rattle.conversions.proofs.convert_float_to_int.Tie as tie
+use Rattle.float_conversions.proofs.FloatToInt.{not-finite, rounded-fit}
+use Rattle.float_conversions.proofs.convert_float_to_int.Statement.{statement}
+use Rattle.float_conversions.proofs.convert_float_to_int.Tie as tie
 
 returns : tie.Need-returns
 returns c = let a = c .before .args in not-finite (a .to .signed) (a .to .bits) (a .mode) (a .range) (a .x) (c .match .keys2)

@@ -1,4 +1,4 @@
--- `conversions::convert_float_to_float` meets its contract: a number by its own law, and an infinity or a NaN as the f64 or narrowed to the row.
+-- `float_conversions::convert_float_to_float` meets its contract: a number by its own law, and an infinity or a NaN as the f64 or narrowed to the row.
 use mathlib.Core.Path.{sym, ap, subst, _∙_}
 use Prim.Native.Nat.{ℕ}
 use borrow.Author.Needs.{needs}
@@ -10,10 +10,10 @@ use Rattle.floats.specs.Form.{CanonicalClass}
 use Rattle.narrowing.specs.Fit.{fitClass, fitFloat}
 use Rattle.narrowing.proofs.Specials.{special}
 use Rattle.kinds.proofs.FloatRows.{double}
-use Rattle.conversions.proofs.Rows.{row-narrower}
-use Rattle.conversions.proofs.ToF64.{special-to-f64}
-use Rattle.conversions.proofs.convert_float_to_float.Statement.{statement}
-use Rattle.conversions.proofs.convert_float_to_float.Tie as tie
+use Rattle.narrowing.proofs.Rows.{row-narrower}
+use Rattle.float_conversions.proofs.ToF64.{special-to-f64}
+use Rattle.float_conversions.proofs.convert_float_to_float.Statement.{statement}
+use Rattle.float_conversions.proofs.convert_float_to_float.Tie as tie
 
 finite-to-float-requires : tie.Need-finite-to-float-requires
 finite-to-float-requires c κs = let t = c .before .before .before in (subst CanonicalClass (c .before .class .given .1) (t .pre .0), t .pre .1)

@@ -1,0 +1,2 @@
+pub mod FloatToInt
+pub mod ToF64
