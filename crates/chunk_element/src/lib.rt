@@ -74,5 +74,5 @@ pub fn refused_at(src: &[u8], s: Settings, input: usize, position: usize, r: Fit
     let b = bytes_le::read_le(src, input, s.sw);
     let source = s.source;
     let target = s.target;
-    element::refusal(position, element::outcome(b, r, source, target))
+    refusals::refusal(position, element::outcome(b, r, source, target))
 }

@@ -1,5 +1,5 @@
--- The fields of a refusal: an element's f64 is its pattern's, the ends are the row's, and number and values are the outcome's.
-use mathlib.Core.Path.{_≡_, refl, ap, ap₂, _∙_}
+-- The fields of a refusal: an element's f64 is its pattern's, and the ends are the row's.
+use mathlib.Core.Path.{_≡_, refl, ap₂}
 use Prim.Native.Nat.{ℕ}
 use Rattle.patterns.specs.Pattern.{asF64}
 use Rattle.kinds.specs.Row.{floatOf, integerOf, kindIn, FloatRow, IntegerRow}
@@ -7,15 +7,9 @@ use Rattle.kinds.specs.declared.FloatFormat.{FloatFormat}
 use Rattle.kinds.specs.declared.IntegerFormat.{IntegerFormat}
 use Rattle.kinds.specs.declared.Format.{Format}
 use Rattle.kinds.specs.declared.Format.the-variants.{Integer, Float}
-use Rattle.answers.specs.Answer.{numberOf, valuesOf, outcomeNumber, outcomeValues}
-use Rattle.answers.specs.declared.Outcome.{Outcome}
-use Rattle.answers.specs.declared.Outcome.the-variants.{Stored, NanOrInf, OutOfRange, FloatOutOfRange}
-use Rattle.answers.specs.declared.Answer.{Answer}
-use Rattle.answers.specs.declared.Answer.the-variants.{Converted}
-use Rattle.cast_spec.specs.Chunk.{answerNext}
+use Rattle.answers.specs.declared.Outcome.the-variants.{OutOfRange, FloatOutOfRange}
 use Rattle.cast_spec.specs.Fit.{pastRange}
 use Rattle.element.specs.Element.{CanonicalElement, FormatPattern, elementF64, elementOf}
-use Rattle.element.specs.Refusal.{RefusalOf}
 use Rattle.kinds.proofs.FloatRows.{by-row}
 use Rattle.element.proofs.FloatRows.{row-formed}
 use Rattle.element.proofs.Integers.{as-f64-is}
@@ -34,13 +28,3 @@ integer-ends f row v = ap₂ (OutOfRange v) (row .low) (row .high)
 
 pub float-ends : (f : FloatFormat) → FloatRow f → (v : ℕ) → FloatOutOfRange v (f .lowest) (f .highest) ≡ pastRange (floatOf f) v
 float-ends f row v = by-row (λ (g : FloatFormat). FloatOutOfRange v (g .lowest) (g .highest) ≡ pastRange (floatOf g) v) refl refl refl f row
-
--- ---- the answer to a refusal has the number and the values of its outcome
-pub refusal-of : (i : ℕ) (o : Outcome) (r : Answer) → r ≡ answerNext o i Converted → RefusalOf i o r
-refusal-of i o r e = record { answer = e; number = ap numberOf e ∙ same o .0; values = ap valuesOf e ∙ same o .1 }
-  where
-    same : (o : Outcome) → (numberOf (answerNext o i Converted) ≡ outcomeNumber o) × (valuesOf (answerNext o i Converted) ≡ outcomeValues i o)
-    same (Stored b _) = (refl, refl)
-    same (NanOrInf v) = (refl, refl)
-    same (OutOfRange v lo hi) = (refl, refl)
-    same (FloatOutOfRange v lo hi) = (refl, refl)

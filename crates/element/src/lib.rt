@@ -6,8 +6,6 @@ ghost use Rattle.cast_spec.specs.Fit.{filled};
 ghost use Rattle.float_fields.specs.Widened.{widenedOf};
 ghost use Rattle.floats.specs.Form as form;
 ghost use Rattle.element.specs.Element.{FloatPattern, FormatPattern, elementOf, elementF64, CanonicalElement};
-ghost use Rattle.element.specs.Refusal.{RefusalOf};
-use answers::Answer;
 use answers::Fit;
 use answers::Outcome;
 use float_fields::Widened;
@@ -93,34 +91,6 @@ pub fn outcome(b: u64, fit: Fit, source: Format, target: Format) -> Outcome
                 lo: t.lowest,
                 hi: t.highest,
             },
-        },
-    }
-}
-
-// The answer that a refusal of the element at a position is; `Converted` where the element was stored.
-pub fn refusal(position: usize, o: Outcome) -> Answer
-    ensures { λ r. ⌜ RefusalOf position o r ⌝ }
-{
-    match o {
-        Outcome::Stored {
-            pattern: _,
-            fared: _,
-        } => Answer::Converted,
-        Outcome::NanOrInf { value } => Answer::NanOrInf {
-            position: position,
-            value: value,
-        },
-        Outcome::OutOfRange { value, lo, hi } => Answer::OutOfRange {
-            position: position,
-            value: value,
-            lo: lo,
-            hi: hi,
-        },
-        Outcome::FloatOutOfRange { value, lo, hi } => Answer::FloatOutOfRange {
-            position: position,
-            value: value,
-            lo: lo,
-            hi: hi,
         },
     }
 }

@@ -77,7 +77,7 @@ pub fn refuse(s: State, o: Outcome) -> State
 {
     let rounding = s.rounding;
     let range = s.range;
-    stop(s.at, element::refusal(s.at, o), rounding, range)
+    stop(s.at, refusals::refusal(s.at, o), rounding, range)
 }
 
 // What a call returns whose loop has ended in this state, with this tally.

@@ -1,4 +1,4 @@
--- `element::refusal` meets its contract: each arm has its outcome's answer.
+-- `refusals::refusal` meets its contract: each arm has its outcome's answer.
 use mathlib.Core.Path.{_≡_, sym, ap, _∙_}
 use lib.IntN.{ℤ}
 use mir.Syntax.{w64}
@@ -8,9 +8,9 @@ use Rattle.answers.specs.declared.Answer.the-variants as A
 use Rattle.answers.specs.declared.Answer.the-variants.{Converted}
 use Rattle.cast_spec.specs.Chunk.{answerNext}
 use borrow.Author.Needs.{needs}
-use Rattle.element.proofs.Refusals.{refusal-of}
-use Rattle.element.proofs.refusal.Statement.{statement}
-use Rattle.element.proofs.refusal.Tie as tie
+use Rattle.refusals.proofs.Answers.{refusal-of}
+use Rattle.refusals.proofs.refusal.Statement.{statement}
+use Rattle.refusals.proofs.refusal.Tie as tie
 
 -- a signed field is read back from its bits as it was
 low-back : (c : tie.After-known-told2) → toZ w64 (ofZ w64 (c .before .o2 .given .0 .1 .0)) ≡ c .before .o2 .given .0 .1 .0
