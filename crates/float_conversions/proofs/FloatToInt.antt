@@ -18,10 +18,10 @@ use Rattle.codes.specs.declared.OutOfRangeMode.{OutOfRangeMode}
 use Rattle.answers.specs.declared.Fit.{Fit}
 use Rattle.answers.specs.declared.Fit.the-variants.{NotFinite}
 use Rattle.cast_spec.specs.Element.{ranged}
+use Rattle.scaled.specs.declared.Scaled.{Scaled}
 use Rattle.floats.specs.declared.Class.{Class}
 use Rattle.floats.specs.declared.Class.the-variants.{Finite, Infinite, NotANumber}
 use Rattle.floats.specs.declared.Float.{Float}
-use Rattle.floats.specs.declared.Scaled.{Scaled}
 use Rattle.floats.proofs.Class.{the-type}
 use Rattle.rounding.specs.Rounding.{unitsOf}
 use Rattle.whole_numbers.specs.Whole.{wholeOf}

@@ -17,13 +17,13 @@ use Rattle.counts.specs.declared.Fared.the-variants.{Exact}
 use Rattle.codes.specs.declared.OutOfRangeMode.{OutOfRangeMode}
 use Rattle.answers.specs.declared.Fit.the-variants.{Pattern}
 use Rattle.cast_spec.specs.Fit.{fitNumber}
-use Rattle.floats.specs.Form.{Canonical, f64Of, finiteBits}
+use Rattle.scaled.specs.Scaled.{Canonical, finiteBits}
+use Rattle.scaled.specs.declared.Scaled.{Scaled}
+use Rattle.scaled.proofs.Magnitudes.{scaled-only, scaled-bits}
+use Rattle.floats.specs.Form.{f64Of}
 use Rattle.floats.specs.declared.Class.{Class}
 use Rattle.floats.specs.declared.Class.the-variants.{Finite, Infinite, NotANumber}
 use Rattle.floats.specs.declared.Float.{Float}
-use Rattle.floats.specs.declared.Scaled.{Scaled}
-use Rattle.floats.proofs.Forms.{scaled-only}
-use Rattle.floats.proofs.Values.{scaled-bits}
 use Rattle.narrowing.specs.Fit.{Special, fitClass, fitFloat}
 use Rattle.float_range.proofs.Fits.{bits-fit, number-fit}
 

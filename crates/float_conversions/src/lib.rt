@@ -4,16 +4,17 @@ ghost use Prim.Native.Nat.{_*_, _^_};
 ghost use Rattle.grid.specs.Round.{signed};
 ghost use Rattle.kinds.specs.Row.{integerOf, floatOf, IntegerRow, FloatRow};
 ghost use Rattle.cast_spec.specs.Fit.{fitNumber};
-ghost use Rattle.floats.specs.Form.{Canonical, CanonicalClass};
+ghost use Rattle.scaled.specs.Scaled.{Canonical};
+ghost use Rattle.floats.specs.Form.{CanonicalClass};
 ghost use Rattle.narrowing.specs.Fit.{fitFloat};
 use answers::Fit;
 use codes::OutOfRangeMode;
 use floats::Class;
 use floats::Float;
-use floats::Scaled;
 use grid::RoundingMode;
 use kinds::FloatFormat;
 use kinds::IntegerFormat;
+use scaled::Scaled;
 
 // A float to an integer kind: rounded to a whole number, which then meets the range.
 pub fn convert_float_to_int(
@@ -49,7 +50,7 @@ fn finite_to_float(
     let p = to.precision;
     let w = to.exponent_bits;
     match p {
-        53 => answers::exact(float_fields::sign_bit(negative, 63) + floats::finite_bits(x)),
+        53 => answers::exact(float_fields::sign_bit(negative, 63) + scaled::finite_bits(x)),
         _ => narrowing::narrow(x, negative, p, w, to.spacing, mode, range),
     }
 }

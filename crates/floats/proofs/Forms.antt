@@ -1,17 +1,14 @@
--- A float element by sign and class: the form of a pattern by its fields, its number, and the f64 that it is written as, for any format.
+-- A float element by sign and class: the form of a pattern by its fields, for any format, and a NaN's fraction in f64.
 use mathlib.Core.Path.{_≡_, refl, sym, ap, ap₂, subst, _∙_}
 use mathlib.Core.Bool.{Bool, true, false}
-use Prim.Native.Nat.{ℕ, zero, suc, _+_, _-_, _*_, _/_, _%_, _^_, _≤_, _<_}
-use native.Mathlib.Nat.{add-comm, le-antisymm, le-of-eq, le-trans, lt-of-lt-of-le, mod-lt, mul-assoc, mul-div-cancel, mul-le-mul-right}
+use Prim.Native.Nat.{ℕ, suc, _+_, _-_, _*_, _/_, _%_, _^_, _≤_, _<_}
+use native.Mathlib.Nat.{add-comm, le-of-eq, le-trans, lt-of-lt-of-le, mod-lt, mul-assoc, mul-le-mul-right}
 use native.Mathlib.Omega.{arith}
 use lib.Dec.{lit<}
-use lib.Ieee.{size}
-use lib.Ieee.Digits.{size-le, size-lt}
-use lib.Pow.{pow-pos, pow-mono, pow-add, shl-lt}
+use lib.Pow.{pow-mono, pow-add, shl-lt}
 use borrow.Author.Tests.{eq-eqb, ne-eqb}
 use Rattle.grid.specs.Round.{signed}
 use Rattle.grid.proofs.Neighbours.{cut, pow-twice-pred}
-use Rattle.grid.proofs.Kept.{size-shift}
 use Rattle.patterns.specs.Float.{bitsMag, fieldMag, infBits}
 use Rattle.patterns.specs.Kind.{Kind, binary, f64}
 use Rattle.patterns.specs.Value.{Value, nan, inf, num, negative, valueOf}
@@ -20,32 +17,13 @@ use Rattle.patterns.proofs.Floats.{is-num, is-inf, is-nan, abs-signed}
 use Rattle.float_fields.specs.Parts.{partsOf}
 use Rattle.float_fields.specs.declared.Parts.{Parts}
 use Rattle.float_fields.proofs.Fields.{exponent-is, fraction-is, fraction-small, fields-mag, finite-bits, infinite-bits, nan-bits}
-use Rattle.floats.specs.Form.{scaledOf, classFor, floatOf, finiteFloat, infiniteOrNan}
-use Rattle.floats.specs.declared.Scaled.{Scaled}
+use Rattle.scaled.specs.Scaled.{scaledOf}
+use Rattle.scaled.specs.declared.Scaled.{Scaled}
+use Rattle.scaled.proofs.Magnitudes.{scaled-only}
+use Rattle.floats.specs.Form.{classFor, floatOf, finiteFloat, infiniteOrNan}
 use Rattle.floats.specs.declared.Class.{Class}
 use Rattle.floats.specs.declared.Class.the-variants.{Finite, Infinite, NotANumber}
 use Rattle.floats.specs.declared.Float.{Float}
-
--- ---- 53 significant bits, or fewer at the exponent 0, are written in one way only
-full-size : (m : ℕ) → m < 2 ^ 53 → 2 ^ 52 ≤ m → size m ≡ 53
-full-size m small full = le-antisymm (size-le m 53 small) (cut (size m) 53 (λ (l : size m < 53). let k : 2 ^ size m ≤ 2 ^ 52 = pow-mono {j = 52} (omega arith) in absurd (omega (arith, size-lt m))) (λ l. l))
-
-scaled-exponent : (m e : ℕ) → m < 2 ^ 53 → (0 < e → 2 ^ 52 ≤ m) → size (m * 2 ^ e) - 53 ≡ e
-scaled-exponent m zero small leading = ap (λ (z : ℕ). size z - 53) (alone m) ∙ few (size-le m 53 small)
-  where
-    alone : (m : ℕ) → m * 2 ^ 0 ≡ m
-    alone m = omega arith
-
-    few : size m ≤ 53 → size m - 53 ≡ 0
-    few h = omega arith
-scaled-exponent m (suc e) small leading =
-    let h = leading (omega arith) in
-    ap (λ (z : ℕ). z - 53) (size-shift m (suc e) (omega arith)) ∙ omega (arith, full-size m small h)
-
-pub scaled-only : (m e : ℕ) → m < 2 ^ 53 → (0 < e → 2 ^ 52 ≤ m) → record { significand = m; exponent = e } ≡ scaledOf (m * 2 ^ e)
-scaled-only m e small leading =
-    let E = scaled-exponent m e small leading in
-    sym (ap₂ {C = Scaled} (λ (a b : ℕ). record { significand = a; exponent = b }) (ap (λ (z : ℕ). m * 2 ^ e / 2 ^ z) E ∙ mul-div-cancel m (pow-pos e)) E)
 
 -- ---- the magnitude of an exponent field
 pub subnormal-mag : (p s x t : ℕ) → x ≡ 0 → fieldMag p s x t ≡ t * 2 ^ s

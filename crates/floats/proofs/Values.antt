@@ -1,56 +1,38 @@
 -- A float element has its pattern's value, is canonical, and is written as the f64 that the papers give it: for any format within f64's.
 use mathlib.Core.Path.{_≡_, refl, sym, ap, subst, _∙_}
 use mathlib.Core.Bool.{Bool}
-use Prim.Native.Nat.{ℕ, max, _+_, _-_, _*_, _/_, _%_, _^_, _≤_, _<_}
+use Prim.Native.Nat.{ℕ, _+_, _-_, _*_, _%_, _^_, _≤_, _<_}
 use native.Mathlib.Nat.{le-refl, le-trans, mod-lt}
 use native.Mathlib.Omega.{arith}
 use lib.Dec.{lit<, lit≤}
-use lib.Ieee.{size}
 use lib.IntN.{ℤ, natAbs}
 use borrow.Author.Tests.{ne-eqb}
 use Rattle.grid.specs.Grid.{OnMag, float}
 use Rattle.grid.specs.Round.{signed}
 use Rattle.grid.specs.declared.RoundingMode.the-variants.{NearestEven}
-use Rattle.grid.proofs.Neighbours.{cut, finer, kept-lt, kept-full}
+use Rattle.grid.proofs.Neighbours.{cut, finer}
 use Rattle.grid.proofs.Picked.{pick-own}
 use Rattle.patterns.specs.Float.{bitsMag, infBits}
 use Rattle.patterns.specs.Kind.{Kind, binary, f16, f32, f64}
 use Rattle.patterns.specs.Value.{Value, nan, inf, num, negative, valueOf}
 use Rattle.patterns.specs.Pattern.{asF64, asF64From, magBits, nanPattern, patternOf, withSign}
 use Rattle.patterns.proofs.AnyKind.{largest-bits, sign-of}
-use Rattle.patterns.proofs.Floats.{infinity-sign, mag-lt, nan-bits, number-of-format, signed-again, whole-units}
+use Rattle.patterns.proofs.Floats.{infinity-sign, mag-lt, nan-bits, number-of-format, signed-again}
+use Rattle.scaled.specs.Scaled.{scaledOf}
+use Rattle.scaled.specs.declared.Scaled.{Scaled}
+use Rattle.scaled.proofs.Magnitudes.{scaled-bits, scaled-leading, scaled-small, scaled-whole}
 use Rattle.floats.specs.declared.Float.{Float}
-use Rattle.floats.specs.Form.{CanonicalClass, classBits, classFor, f64Of, finiteBits, floatOf, scaledOf}
+use Rattle.floats.specs.Form.{CanonicalClass, classBits, classFor, f64Of, floatOf}
 use Rattle.floats.specs.declared.Class.the-variants.{Finite}
-use Rattle.floats.specs.declared.Scaled.{Scaled}
 use Rattle.floats.proofs.Forms.{quiet-fraction}
 
-no-max : (z : ℕ) → max 0 z ≡ z
-no-max z = omega arith
-
--- ---- a number of f64 by its highest bits
-module _ (n : ℕ) (on : OnMag (float 53 0) n) where
-  pub scaled-whole : scaledOf n .significand * 2 ^ scaledOf n .exponent ≡ n
-  scaled-whole = ap (λ (e : ℕ). n / 2 ^ e * 2 ^ e) (sym (no-max (size n - 53))) ∙ whole-units 53 11 0 (lit≤ tt) (lit< tt) n on
-
-  pub scaled-bits : finiteBits (scaledOf n) ≡ magBits 53 0 n
-  scaled-bits = ap (λ (e : ℕ). e * 2 ^ 52 + n / 2 ^ e) (sym (no-max (size n - 53))) ∙ ap (λ (e : ℕ). e * 2 ^ 52 + n / 2 ^ max 0 (size n - 53)) (none (max 0 (size n - 53)))
+-- ---- a number of f64 by its highest bits is canonical
+module _ (n : ℕ) (on : OnMag (float 53 0) n) (most : n ≤ bitsMag 53 0 (infBits 53 11 - 1)) where
+  pub scaled-canonical : CanonicalClass (Finite (scaledOf n))
+  scaled-canonical = record { small = scaled-small n; leading = scaled-leading n; finite = below (scaledOf n .exponent) (scaledOf n .significand) (scaled-leading n) (subst (λ (z : ℕ). z < infBits 53 11) (sym (scaled-bits n on)) (mag-lt 53 11 0 (lit≤ tt) (lit< tt) n on most)) }
     where
-      none : (z : ℕ) → z ≡ z - 0
-      none z = omega arith
-
-  module _ (most : n ≤ bitsMag 53 0 (infBits 53 11 - 1)) where
-    scaled-small : scaledOf n .significand < 2 ^ 53
-    scaled-small = subst (λ (e : ℕ). n / 2 ^ e < 2 ^ 53) (no-max (size n - 53)) (kept-lt 53 0 n)
-
-    scaled-leading : 0 < scaledOf n .exponent → 2 ^ 52 ≤ scaledOf n .significand
-    scaled-leading = subst (λ (e : ℕ). 0 < e → 2 ^ 52 ≤ n / 2 ^ e) (no-max (size n - 53)) (kept-full 53 0 n (lit≤ tt))
-
-    pub scaled-canonical : CanonicalClass (Finite (scaledOf n))
-    scaled-canonical = record { small = scaled-small; leading = scaled-leading; finite = below (scaledOf n .exponent) (scaledOf n .significand) scaled-leading (subst (λ (z : ℕ). z < infBits 53 11) (sym scaled-bits) (mag-lt 53 11 0 (lit≤ tt) (lit< tt) n on most)) }
-      where
-        below : (e m : ℕ) → (0 < e → 2 ^ 52 ≤ m) → e * 2 ^ 52 + m < infBits 53 11 → e < 2046
-        below e m l h = cut e 2046 (λ k. k) (λ (k : 2046 ≤ e). absurd (omega (arith, l (omega arith))))
+      below : (e m : ℕ) → (0 < e → 2 ^ 52 ≤ m) → e * 2 ^ 52 + m < infBits 53 11 → e < 2046
+      below e m l h = cut e 2046 (λ k. k) (λ (k : 2046 ≤ e). absurd (omega (arith, l (omega arith))))
 
 -- the fraction of the f64 that stands for a NaN, and that f64
 record NanForm (k : Kind) (b : ℕ) : Type 0 where

@@ -12,8 +12,9 @@ use Rattle.float_fields.specs.Parts.{fractionOf}
 use Rattle.float_fields.specs.Widened.{Widens, widenedOf}
 use Rattle.float_fields.specs.declared.Widened.{Widened}
 use Rattle.float_fields.proofs.Widenings.{exponent-of, fraction-of, negative-of, quieted, same-magnitude, same-quiet, same-significand}
-use Rattle.floats.specs.Form.{finiteFloat, floatOf, infiniteOrNan, scaledOf}
-use Rattle.floats.specs.declared.Scaled.{Scaled}
+use Rattle.scaled.specs.Scaled.{scaledOf}
+use Rattle.scaled.specs.declared.Scaled.{Scaled}
+use Rattle.floats.specs.Form.{finiteFloat, floatOf, infiniteOrNan}
 use Rattle.floats.proofs.Forms.{subnormal-form, normal-form, special-form, quiet-fraction}
 
 -- ---- the element

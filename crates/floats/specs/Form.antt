@@ -1,21 +1,16 @@
 -- Internal: a float element as a program has it, by sign and class, for any precision, exponent width and spacing.
 use mathlib.Core.Bool.{Bool, cond}
-use Prim.Native.Nat.{ℕ, _+_, _-_, _*_, _/_, _%_, _^_, _≤_, _<_}
+use Prim.Native.Nat.{ℕ, _+_, _%_, _^_, _<_}
 use lib.Dec.{eqb}
-use lib.Ieee.{size}
 use lib.IntN.{natAbs}
 use Rattle.patterns.specs.Float.{infBits}
 use Rattle.patterns.specs.Kind.{Kind}
 use Rattle.patterns.specs.Value.{Value, nan, inf, num, negative, valueOf}
 use Rattle.patterns.specs.Pattern.{withSign, nanPattern}
-use Rattle.floats.specs.declared.Scaled.{Scaled}
+use Rattle.scaled.specs.Scaled.{Canonical, finiteBits, scaledOf}
 use Rattle.floats.specs.declared.Class.{Class}
 use Rattle.floats.specs.declared.Class.the-variants.{Finite, Infinite, NotANumber}
 use Rattle.floats.specs.declared.Float.{Float}
-
--- a magnitude n of f64 by its 53 highest bits, or all of them
-abbrev pub scaledOf : ℕ → Scaled
-scaledOf n = let e = size n - 53 in record { significand = n / 2 ^ e; exponent = e }
 
 abbrev pub finiteFloat : Bool → ℕ → ℕ → Float
 finiteFloat neg m e = record { negative = neg; class = Finite (record { significand = m; exponent = e }) }
@@ -33,20 +28,10 @@ classFor k b nan = NotANumber (nanPattern k 53 11 b % 2 ^ 52)
 abbrev pub floatOf : Kind → ℕ → Float
 floatOf k b = record { negative = negative k b; class = classFor k b (valueOf k b) }
 
--- 53 significant bits, or fewer at the exponent 0
-pub record Canonical (x : Scaled) : Type 0 where
-  pub small : x .significand < 2 ^ 53
-  pub leading : 0 < x .exponent → 2 ^ 52 ≤ x .significand
-  pub finite : x .exponent < 2046
-
 abbrev pub CanonicalClass : Class → Type 0
 CanonicalClass (Finite x) = Canonical x
 CanonicalClass Infinite = Unit {0}
 CanonicalClass (NotANumber t) = (0 < t) × (t < 2 ^ 52)
-
--- the bits below the sign of an f64
-abbrev pub finiteBits : Scaled → ℕ
-finiteBits x = x .exponent * 2 ^ 52 + x .significand
 
 abbrev pub classBits : Class → ℕ
 classBits (Finite x) = finiteBits x

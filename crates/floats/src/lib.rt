@@ -1,17 +1,12 @@
 // A float's bit pattern read by its fields: the number, the infinity or the NaN that it stands for. A float of any format is read as the f64 that has its
 // value, so that whatever follows knows one form.
 ghost use mathlib.Core.Path.{_≡_};
-ghost use Prim.Native.Nat.{ℕ, _*_, _^_, _<_, _≤_};
+ghost use Prim.Native.Nat.{ℕ};
 ghost use Rattle.patterns.specs.Kind.{binary, f16, f32, f64};
 ghost use Rattle.float_fields.specs.Widened.{Widens, WidenedFields, widenedOf};
-ghost use Rattle.floats.specs.Form.{scaledOf, finiteFloat, infiniteOrNan, floatOf, Canonical, CanonicalClass, finiteBits, f64Of};
+ghost use Rattle.floats.specs.Form.{finiteFloat, infiniteOrNan, floatOf, CanonicalClass, f64Of};
 use float_fields::Widened;
-
-// The magnitude significand × 2^exponent, counted from 2^-1074: 53 significant bits, or fewer at the exponent 0.
-pub struct Scaled {
-    pub significand: u64,
-    pub exponent: u64,
-}
+use scaled::Scaled;
 
 // What a float is but for its sign. A NaN has its fraction as an f64 has it.
 pub enum Class {
@@ -24,24 +19,6 @@ pub enum Class {
 pub struct Float {
     pub negative: bool,
     pub class: Class,
-}
-
-// The magnitude n × 2^exponent with the highest bit of n moved to the 53rd place.
-pub fn normalize(n: u64, exponent: u64) -> Scaled
-    requires { ⌜ (n < 2 ^ 53) × (53 ≤ exponent) ⌝ }
-    ensures { λ r. ⌜ r ≡ scaledOf (n * 2 ^ exponent) ⌝ }
-{
-    if n == 0 {
-        return Scaled {
-            significand: 0,
-            exponent: 0,
-        };
-    }
-    let zeros = u64::leading_zeros(n);
-    Scaled {
-        significand: (n << zeros) >> 11,
-        exponent: exponent - ((zeros as u64) - 11),
-    }
 }
 
 // A finite float.
@@ -96,7 +73,7 @@ pub fn read_widened(f: Widened) -> Float
     let fraction = f.fraction;
     match exponent {
         0 => {
-            let x = normalize(fraction, f.spacing);
+            let x = scaled::normalize(fraction, f.spacing);
             finite(f.negative, x.significand, x.exponent)
         }
         1..=254 => finite(f.negative, (0x80_0000 + fraction) << 29, exponent + 895),
@@ -121,14 +98,6 @@ pub fn read_f16(b: u16) -> Float
     read_widened(float_fields::widen_f16(b))
 }
 
-// The bits below the sign of a finite magnitude as an f64.
-pub fn finite_bits(x: Scaled) -> u64
-    requires { ⌜ Canonical x ⌝ }
-    ensures { λ r. ⌜ r ≡ finiteBits x ⌝ }
-{
-    (x.exponent << 52) + x.significand
-}
-
 // The f64 of an element.
 pub fn write_f64(x: Float) -> u64
     requires { ⌜ CanonicalClass (x .class) ⌝ }
@@ -137,7 +106,7 @@ pub fn write_f64(x: Float) -> u64
     let sign = float_fields::sign_bit(x.negative, 63);
     let class = x.class;
     match class {
-        Class::Finite(magnitude) => sign + finite_bits(magnitude),
+        Class::Finite(magnitude) => sign + scaled::finite_bits(magnitude),
         Class::Infinite => sign + 0x7ff0_0000_0000_0000,
         Class::NotANumber { fraction } => sign + 0x7ff0_0000_0000_0000 + fraction,
     }

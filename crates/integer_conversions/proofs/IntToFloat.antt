@@ -22,7 +22,8 @@ use Rattle.counts.specs.Counts.{byPick}
 use Rattle.counts.specs.declared.Fared.{Fared}
 use Rattle.codes.specs.declared.OutOfRangeMode.{OutOfRangeMode}
 use Rattle.answers.specs.declared.Fit.the-variants.{Pattern}
-use Rattle.floats.specs.Form.{CanonicalClass, scaledOf}
+use Rattle.scaled.specs.Scaled.{scaledOf}
+use Rattle.floats.specs.Form.{CanonicalClass}
 use Rattle.floats.specs.declared.Class.the-variants.{Finite}
 use Rattle.floats.proofs.Values.{scaled-canonical}
 use Rattle.integers.specs.Precision.{Precision, roundedBits}

@@ -28,13 +28,14 @@ use Rattle.patterns.specs.Pattern.{magBits, patternOf, withSign}
 use Rattle.patterns.specs.Value.{Value, nan, inf, num, negative, valueOf}
 use Rattle.patterns.proofs.AnyKind.{largest-bits}
 use Rattle.patterns.proofs.Floats.{abs-signed, number-of-format}
-use Rattle.floats.specs.Form.{Canonical, classFor, floatOf, scaledOf}
+use Rattle.scaled.specs.Scaled.{Canonical, scaledOf}
+use Rattle.scaled.specs.declared.Scaled.{Scaled}
+use Rattle.scaled.proofs.Magnitudes.{scaled-only, scaled-whole}
+use Rattle.floats.specs.Form.{classFor, floatOf}
 use Rattle.floats.specs.declared.Class.the-variants.{Finite}
-use Rattle.floats.specs.declared.Scaled.{Scaled}
 use Rattle.floats.specs.declared.Float.{Float}
 use Rattle.floats.proofs.Class.{the-type}
-use Rattle.floats.proofs.Forms.{scaled-only}
-use Rattle.floats.proofs.Values.{finite-value, scaled-canonical, scaled-whole}
+use Rattle.floats.proofs.Values.{finite-value, scaled-canonical}
 use Rattle.rounding.specs.Rounding.{unitsOf}
 use Rattle.rounding.proofs.Units.{whole-times-unit}
 use Rattle.integral.specs.Integral.{roundedFrom, roundedOf}

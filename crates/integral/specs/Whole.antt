@@ -6,7 +6,7 @@ use Rattle.grid.specs.Round.{pickMag, ruleFor}
 use Rattle.grid.specs.Ternary.{ternaryFor}
 use Rattle.grid.specs.declared.RoundingMode.{RoundingMode}
 use Rattle.patterns.specs.Float.{bitsMag, infBits}
-use Rattle.floats.specs.Form.{scaledOf}
+use Rattle.scaled.specs.Scaled.{scaledOf}
 use Rattle.integral.specs.declared.WholeMagnitude.{WholeMagnitude}
 
 -- the pick of a magnitude n, and where it lies

@@ -2,17 +2,18 @@
 ghost use mathlib.Core.Path.{_≡_};
 ghost use Prim.Native.Nat.{_*_, _^_, _<_, _≤_};
 ghost use Rattle.patterns.specs.Kind.{binary, f16, f32, f64};
-ghost use Rattle.floats.specs.Form.{Canonical, CanonicalClass, floatOf};
+ghost use Rattle.scaled.specs.Scaled.{Canonical};
+ghost use Rattle.floats.specs.Form.{CanonicalClass, floatOf};
 ghost use Rattle.float_range.specs.Range.{FormatBits};
 ghost use Rattle.narrowing.specs.Format.{Narrower};
 ghost use Rattle.integral.specs.Integral.{roundedOf};
 ghost use Rattle.integral.specs.Whole.{integralOf, WholeTop};
 use floats::Class;
 use floats::Float;
-use floats::Scaled;
 use grid::Rounded;
 use grid::RoundingMode;
 use grid::Ternary;
+use scaled::Scaled;
 
 // A finite magnitude that is a whole number, and where it lies beside the one that was rounded.
 struct WholeMagnitude {
@@ -34,7 +35,7 @@ fn integral(x: Scaled, mode: RoundingMode, negative: bool) -> WholeMagnitude
     let whole = whole_numbers::round_to_whole(x, mode, negative);
     let ternary = whole.ternary;
     WholeMagnitude {
-        magnitude: floats::normalize(whole.magnitude, 1074),
+        magnitude: scaled::normalize(whole.magnitude, 1074),
         ternary: ternary,
     }
 }
@@ -56,7 +57,7 @@ pub fn round_with_mode_f64(b: u64, mode: RoundingMode) -> Rounded
     let rounded = whole.magnitude;
     let ternary = whole.ternary;
     Rounded {
-        bits: float_fields::sign_bit(negative, 63) + floats::finite_bits(rounded),
+        bits: float_fields::sign_bit(negative, 63) + scaled::finite_bits(rounded),
         ternary: ternary,
     }
 }

@@ -22,7 +22,7 @@ use Rattle.patterns.specs.Pattern.{magBits}
 use Rattle.patterns.proofs.PickBits.{float-law}
 use Rattle.patterns.proofs.Encode.{encode}
 use Rattle.patterns.proofs.Floats.{bits-again}
-use Rattle.floats.specs.Form.{Canonical}
+use Rattle.scaled.specs.Scaled.{Canonical}
 use Rattle.rounding.specs.Rounding.{Droppable, shifted, unitsOf}
 use Rattle.rounding.proofs.Units.{over-unit, whole-times-unit, below-power, below-unit, unit-side}
 use Rattle.narrowing.specs.Format.{Narrower, narrowed}

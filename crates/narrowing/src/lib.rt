@@ -7,7 +7,7 @@ ghost use Rattle.patterns.specs.Kind.{binary};
 ghost use Rattle.patterns.specs.Pattern.{quiet};
 ghost use Rattle.codes.specs.declared.OutOfRangeMode.{OutOfRangeMode};
 ghost use Rattle.cast_spec.specs.Fit.{fitNumber};
-ghost use Rattle.floats.specs.Form.{Canonical};
+ghost use Rattle.scaled.specs.Scaled.{Canonical};
 ghost use Rattle.float_range.specs.Range.{FormatBits};
 ghost use Rattle.narrowing.specs.Format.{Narrower, narrowed};
 ghost use Rattle.narrowing.specs.Fit.{Special, fitFloat};
@@ -16,9 +16,9 @@ use codes::OutOfRangeMode;
 use counts::Fared;
 use floats::Class;
 use floats::Float;
-use floats::Scaled;
 use grid::Rounded;
 use grid::RoundingMode;
+use scaled::Scaled;
 
 // The bits below the sign of a finite magnitude, rounded to p significant bits and the smallest spacing 2^s; those of an infinity or more where the
 // format is overrun.

@@ -18,9 +18,10 @@ use Rattle.patterns.specs.Float.{bitsMag}
 use Rattle.patterns.specs.Pattern.{magBits}
 use Rattle.patterns.proofs.Encode.{zero-bits}
 use Rattle.patterns.proofs.Floats.{bits-again, mag-back}
-use Rattle.floats.specs.Form.{CanonicalClass, scaledOf}
+use Rattle.scaled.specs.Scaled.{scaledOf}
+use Rattle.scaled.proofs.Magnitudes.{scaled-bits, scaled-whole}
+use Rattle.floats.specs.Form.{CanonicalClass}
 use Rattle.floats.specs.declared.Class.the-variants.{Finite}
-use Rattle.floats.proofs.Values.{scaled-bits, scaled-whole}
 use Rattle.narrowing.specs.Format.{Narrower}
 use Rattle.narrowing.proofs.Magnitudes.{field-fits, normal-rounded}
 use Rattle.rebiasing.specs.Rebiased.{Rebiasable, rebiased}

@@ -18,7 +18,8 @@ use Rattle.codes.specs.declared.OutOfRangeMode.{OutOfRangeMode}
 use Rattle.counts.specs.declared.Fared.the-variants.{Exact}
 use Rattle.answers.specs.declared.Fit.the-variants.{Pattern}
 use Rattle.cast_spec.specs.Element.{converted}
-use Rattle.floats.specs.Form.{classFor, f64Of, floatOf, scaledOf}
+use Rattle.scaled.specs.Scaled.{scaledOf}
+use Rattle.floats.specs.Form.{classFor, f64Of, floatOf}
 use Rattle.floats.proofs.Values.{Formed, f64-formed}
 use Rattle.cast_spec.specs.Fit.{fitNumber, fitOf}
 use Rattle.narrowing.specs.Fit.{fitClass, fitFloat}

@@ -17,7 +17,7 @@ use Rattle.grid.specs.Ternary.{ternaryOf, ternaryFor}
 use Rattle.grid.proofs.Kept.{pick-exact}
 use Rattle.grid.proofs.Neighbours.{cut}
 use Rattle.grid.proofs.Sides.{exact-is}
-use Rattle.floats.specs.Form.{Canonical}
+use Rattle.scaled.specs.Scaled.{Canonical}
 use Rattle.rounding.specs.Rounding.{Droppable, shifted, unitsOf}
 use Rattle.whole_numbers.specs.Whole.{wholeOf}
 use Rattle.whole_numbers.specs.declared.Whole.{Whole}

@@ -1,11 +1,11 @@
 // A finite float rounded to a whole number.
 ghost use mathlib.Core.Path.{_≡_};
 ghost use Prim.Native.Nat.{_*_, _^_};
-ghost use Rattle.floats.specs.Form.{Canonical};
+ghost use Rattle.scaled.specs.Scaled.{Canonical};
 ghost use Rattle.whole_numbers.specs.Whole.{wholeOf};
-use floats::Scaled;
 use grid::RoundingMode;
 use grid::Ternary;
+use scaled::Scaled;
 
 // A whole number's magnitude modulo 2^64, whether the magnitude exceeds 64 bits, and where the number lies beside the one that was rounded.
 pub struct Whole {

@@ -20,7 +20,7 @@ use Rattle.patterns.specs.Value.{Value, nan, inf, num, valueOf}
 use Rattle.patterns.proofs.AnyKind.{whole-pattern}
 use Rattle.floats.specs.Form.{classFor, floatOf}
 use Rattle.floats.specs.declared.Class.the-variants.{Finite}
-use Rattle.floats.specs.declared.Scaled.{Scaled}
+use Rattle.scaled.specs.declared.Scaled.{Scaled}
 use Rattle.floats.specs.declared.Float.{Float}
 use Rattle.floats.proofs.Class.{the-type}
 use Rattle.rounding.specs.Rounding.{unitsOf}

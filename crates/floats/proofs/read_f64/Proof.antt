@@ -4,7 +4,8 @@ use native.Mathlib.Omega.{arith}
 use lib.Dec.{lit<, lit≤}
 use borrow.Author.Needs.{needs}
 use Rattle.float_fields.proofs.Fields.{fraction-small, fraction-is}
-use Rattle.floats.proofs.Forms.{scaled-only, subnormal-form, normal-form, special-form, own-fraction}
+use Rattle.scaled.proofs.Magnitudes.{scaled-only}
+use Rattle.floats.proofs.Forms.{subnormal-form, normal-form, special-form, own-fraction}
 use Rattle.floats.proofs.read_f64.Statement.{statement}
 use Rattle.floats.proofs.read_f64.Tie as tie
 

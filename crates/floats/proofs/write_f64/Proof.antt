@@ -7,7 +7,8 @@ use lib.Dec.{lit<, lit≤}
 use borrow.Author.Needs.{needs}
 use Rattle.patterns.specs.Pattern.{withSign}
 use Rattle.float_fields.proofs.Signs.{signed-sum, signed-fits}
-use Rattle.floats.specs.Form.{Canonical, CanonicalClass, classBits}
+use Rattle.scaled.specs.Scaled.{Canonical}
+use Rattle.floats.specs.Form.{CanonicalClass, classBits}
 use Rattle.floats.specs.declared.Class.{Class}
 use Rattle.floats.specs.declared.Class.the-variants.{Finite, NotANumber}
 use Rattle.floats.proofs.write_f64.Statement.{statement}

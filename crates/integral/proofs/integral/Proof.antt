@@ -5,7 +5,7 @@ use native.Mathlib.Omega.{arith}
 use borrow.Author.Needs.{needs}
 use Rattle.grid.specs.Round.{ruleFor}
 use Rattle.grid.specs.declared.Ternary.the-variants.{Exact}
-use Rattle.floats.specs.Form.{scaledOf}
+use Rattle.scaled.specs.Scaled.{scaledOf}
 use Rattle.whole_numbers.specs.declared.Whole.{Whole}
 use Rattle.integral.proofs.WholeFloats.{whole-already, whole-exact, count-lt, count-times, integral-at}
 use Rattle.integral.proofs.integral.Statement.{statement}

@@ -10,7 +10,8 @@ use Rattle.grid.specs.declared.Rounded.{Rounded}
 use Rattle.patterns.specs.Pattern.{magBits, withSign}
 use Rattle.patterns.proofs.Floats.{inf-lt, mag-lt}
 use Rattle.float_fields.proofs.Signs.{signed-sum, signed-fits}
-use Rattle.floats.specs.Form.{Canonical, CanonicalClass}
+use Rattle.scaled.specs.Scaled.{Canonical}
+use Rattle.floats.specs.Form.{CanonicalClass}
 use Rattle.integral.specs.declared.WholeMagnitude.{WholeMagnitude}
 use Rattle.integral.proofs.WholeFloats.{narrowed, own-grid, own-range, rounded-pattern, stays, whole-canonical}
 use Rattle.integral.proofs.round_narrower.Statement.{statement}

@@ -9,9 +9,11 @@ use Rattle.grid.specs.Round.{ruleFor}
 use Rattle.grid.specs.declared.Rounded.{Rounded}
 use Rattle.patterns.specs.Pattern.{withSign}
 use Rattle.float_fields.proofs.Signs.{signed-sum, signed-fits}
-use Rattle.floats.specs.Form.{Canonical, CanonicalClass, finiteBits}
+use Rattle.scaled.specs.Scaled.{Canonical, finiteBits}
+use Rattle.scaled.proofs.Magnitudes.{scaled-bits}
+use Rattle.floats.specs.Form.{CanonicalClass}
 use Rattle.floats.specs.declared.Float.{Float}
-use Rattle.floats.proofs.Values.{f64-formed, scaled-bits}
+use Rattle.floats.proofs.Values.{f64-formed}
 use Rattle.integral.specs.declared.WholeMagnitude.{WholeMagnitude}
 use Rattle.integral.proofs.WholeFloats.{own-grid, rounded-pattern, stays, whole-canonical}
 use Rattle.integral.proofs.round_with_mode_f64.Statement.{statement}

@@ -6,9 +6,9 @@ use native.Mathlib.Omega.{arith}
 use lib.Count.{leadingZeros, leading-top}
 use lib.Pow.{pow-add, pow-mono, shl-lt}
 use Rattle.grid.proofs.Neighbours.{cut}
-use Rattle.floats.specs.Form.{scaledOf}
-use Rattle.floats.specs.declared.Scaled.{Scaled}
-use Rattle.floats.proofs.Forms.{scaled-only}
+use Rattle.scaled.specs.Scaled.{scaledOf}
+use Rattle.scaled.specs.declared.Scaled.{Scaled}
+use Rattle.scaled.proofs.Magnitudes.{scaled-only}
 
 pub zero-normalized : (a e : ℕ) → a ≡ 0 → record { significand = 0; exponent = 0 } ≡ scaledOf (a * 2 ^ e)
 zero-normalized a e z = scaled-only 0 0 (omega arith) (λ (h : 0 < 0). absurd (omega arith)) ∙ ap scaledOf (zero-mul (2 ^ 0) ∙ sym (ap (λ (n : ℕ). n * 2 ^ e) z ∙ zero-mul (2 ^ e)))

@@ -1,8 +1,8 @@
--- `floats::normalize` meets its contract: the leading zeros say by how many places the number moves up.
+-- `scaled::normalize` meets its contract: the leading zeros say by how many places the number moves up.
 use native.Mathlib.Omega.{arith}
-use Rattle.floats.proofs.Normalized.{zero-normalized, zeros-between, normalized}
-use Rattle.floats.proofs.normalize.Statement.{statement}
-use Rattle.floats.proofs.normalize.Tie as tie
+use Rattle.scaled.proofs.Normalized.{zero-normalized, zeros-between, normalized}
+use Rattle.scaled.proofs.normalize.Statement.{statement}
+use Rattle.scaled.proofs.normalize.Tie as tie
 
 returns : tie.Need-returns
 returns c = let a = c .before .args in zero-normalized (a .n) (a .exponent) (c .if1 .taken)
