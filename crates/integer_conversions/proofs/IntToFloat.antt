@@ -26,10 +26,10 @@ use Rattle.scaled.specs.Scaled.{scaledOf}
 use Rattle.floats.specs.Form.{CanonicalClass}
 use Rattle.floats.specs.declared.Class.the-variants.{Finite}
 use Rattle.floats.proofs.Values.{scaled-canonical}
-use Rattle.integers.specs.Precision.{Precision, roundedBits}
 use Rattle.integers.specs.declared.Integer.{Integer}
-use Rattle.integers.proofs.Bounds.{pick-in-f64, pick-on}
-use Rattle.integers.proofs.Scale.{pick-scale}
+use Rattle.integer_rounding.specs.Precision.{Precision, roundedBits}
+use Rattle.integer_rounding.proofs.Bounds.{pick-in-f64, pick-on}
+use Rattle.integer_rounding.proofs.Scale.{pick-scale}
 use Rattle.float_range.specs.Range.{fitBits}
 use Rattle.narrowing.specs.Format.{Narrower}
 use Rattle.rebiasing.specs.Rebiased.{Rebiasable, rebiased}

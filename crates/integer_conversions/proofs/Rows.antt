@@ -4,7 +4,7 @@ use lib.Dec.{lit≤}
 use Rattle.kinds.specs.Row.{FloatRow}
 use Rattle.kinds.specs.declared.FloatFormat.{FloatFormat}
 use Rattle.kinds.proofs.FloatRows.{by-row}
-use Rattle.integers.specs.Precision.{Precision}
+use Rattle.integer_rounding.specs.Precision.{Precision}
 
 pub row-precision : (f : FloatFormat) → FloatRow f → Precision (f .precision)
 row-precision = by-row (λ (f : FloatFormat). Precision (f .precision)) (record { two = lit≤ tt; at-most-53 = lit≤ tt }) (record { two = lit≤ tt; at-most-53 = lit≤ tt }) (record { two = lit≤ tt; at-most-53 = lit≤ tt })

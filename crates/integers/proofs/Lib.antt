@@ -1,7 +1,1 @@
-pub mod SignificantBits
-pub mod Steps
-pub mod Sums
-pub mod Scale
 pub mod Magnitudes
-pub mod Rounded
-pub mod Bounds

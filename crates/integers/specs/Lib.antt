@@ -1,2 +1,1 @@
 pub mod Magnitude
-pub mod Precision

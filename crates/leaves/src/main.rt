@@ -6,7 +6,7 @@ ghost use lib.ListN.{length};
 ghost use Rattle.bytes_le.specs.Bytes.{Width};
 ghost use Rattle.kinds.specs.Row.{FloatRow};
 ghost use Rattle.integers.specs.Magnitude.{IntegerPattern};
-ghost use Rattle.integers.specs.Precision.{Precision};
+ghost use Rattle.integer_rounding.specs.Precision.{Precision};
 use answers::Fit;
 use answers::Lookup;
 use codes::OutOfRangeMode;
@@ -402,7 +402,7 @@ fn integer(magnitude: u64, negative: bool, precision: u32, mode: RoundingMode)
     requires { ⌜ Precision precision ⌝ }
 {
     put_rounded(
-        integers::int_to_f64_magnitude(magnitude, negative, precision, mode),
+        integer_rounding::int_to_f64_magnitude(magnitude, negative, precision, mode),
         16,
     );
 }

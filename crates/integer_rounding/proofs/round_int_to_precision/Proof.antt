@@ -1,4 +1,4 @@
--- `integers::round_int_to_precision` meets its contract: the kept part and the unit are floats exactly, and so is their sum; the rest and the step tell where it lies.
+-- `integer_rounding::round_int_to_precision` meets its contract: the kept part and the unit are floats exactly, and so is their sum; the rest and the step tell where it lies.
 use mathlib.Core.Path.{_≡_, sym, subst}
 use mathlib.Core.Bool.{false}
 use Prim.Native.Nat.{_+_, _-_, _≤_}
@@ -8,9 +8,9 @@ use lib.Ieee.Exact.{HasValue}
 use borrow.Author.Needs.{needs}
 use Rattle.grid.specs.Grid.{float}
 use Rattle.grid.specs.Round.{pickMag, ruleFor}
-use Rattle.integers.proofs.Rounded.{few-bits, few-bits-exact, dropped, shift-lt, kept-le, rest-lt, many-bits, rest-exact, up-larger}
-use Rattle.integers.proofs.round_int_to_precision.Statement.{statement}
-use Rattle.integers.proofs.round_int_to_precision.Tie as tie
+use Rattle.integer_rounding.proofs.Rounded.{few-bits, few-bits-exact, dropped, shift-lt, kept-le, rest-lt, many-bits, rest-exact, up-larger}
+use Rattle.integer_rounding.proofs.round_int_to_precision.Statement.{statement}
+use Rattle.integer_rounding.proofs.round_int_to_precision.Tie as tie
 
 returns : tie.Need-returns
 returns c =

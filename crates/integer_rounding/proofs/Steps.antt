@@ -10,7 +10,7 @@ use Rattle.grid.specs.declared.RoundingMode.{RoundingMode}
 use Rattle.grid.specs.declared.RoundingMode.the-variants.{NearestEven, TowardsZero, TowardsPositive, TowardsNegative, NearestAway}
 use Rattle.grid.specs.Round.{step, ruleFor}
 use Rattle.grid.proofs.Step.{by-lt, by-zero, step-either}
-use Rattle.integers.specs.Precision.{stepsUp}
+use Rattle.integer_rounding.specs.Precision.{stepsUp}
 
 stays : (q : ℕ) → ltb q q ≡ false
 stays q = le-ltb q q (le-refl q)

@@ -1,9 +1,9 @@
--- `integers::significant_bits` meets its contract: leading zeros and significant bits make 64.
+-- `integer_rounding::significant_bits` meets its contract: leading zeros and significant bits make 64.
 use native.Mathlib.Omega.{arith}
 use lib.Count.{leading-le}
-use Rattle.integers.proofs.SignificantBits.{leading-size}
-use Rattle.integers.proofs.significant_bits.Statement.{statement}
-use Rattle.integers.proofs.significant_bits.Tie as tie
+use Rattle.integer_rounding.proofs.SignificantBits.{leading-size}
+use Rattle.integer_rounding.proofs.significant_bits.Statement.{statement}
+use Rattle.integer_rounding.proofs.significant_bits.Tie as tie
 
 sub-result : tie.Need-sub-result
 sub-result c = leading-le 64 (c .args .magnitude)

@@ -18,7 +18,7 @@ use Rattle.grid.proofs.Kept.{pick-shift, pick-signed, pick-zero}
 use Rattle.patterns.specs.Pattern.{magBits}
 use Rattle.grid.proofs.Sides.{exact-is}
 use Rattle.grid.proofs.Step.{step-no-rest}
-use Rattle.integers.specs.Precision.{roundedBits}
+use Rattle.integer_rounding.specs.Precision.{roundedBits}
 
 -- ---- a whole number of units is picked itself
 pick-whole-units : (g : Grid) (r : RoundingMode) (n : ℕ) → n % 2 ^ unitExp g n ≡ 0 → pickMag g r n ≡ n

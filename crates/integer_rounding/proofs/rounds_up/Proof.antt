@@ -1,11 +1,11 @@
--- `integers::rounds_up` meets its contract: each arm's test is the one by which its rule steps up.
+-- `integer_rounding::rounds_up` meets its contract: each arm's test is the one by which its rule steps up.
 use mathlib.Core.Path.{_≡_}
 use mathlib.Core.Bool.{true, false}
 use borrow.Author.Needs.{needs}
 use Rattle.grid.specs.declared.RoundingMode.the-variants.{NearestEven, TowardsZero, TowardsPositive, TowardsNegative, NearestAway}
-use Rattle.integers.proofs.Steps.{even-up, away-up, zero-up, positive-up, negative-up}
-use Rattle.integers.proofs.rounds_up.Statement.{statement}
-use Rattle.integers.proofs.rounds_up.Tie as tie
+use Rattle.integer_rounding.proofs.Steps.{even-up, away-up, zero-up, positive-up, negative-up}
+use Rattle.integer_rounding.proofs.rounds_up.Statement.{statement}
+use Rattle.integer_rounding.proofs.rounds_up.Tie as tie
 
 returns : tie.Need-returns
 returns c = let a = c .before .before .args in let e : a .mode ≡ NearestEven = c .enum-told .given .1 in rw e (even-up (a .q) (a .rest) (a .unit) (c .before .before .pre) (a .negative))
