@@ -1,23 +1,10 @@
 // The chunk call: source bytes of one kind converted to destination bytes of another, element by element; and its preview.
-ghost use mathlib.Core.Path.{_≡_};
 ghost use Rattle.cast_spec.specs.Chunk.{inputs};
 ghost use Rattle.cast_spec.specs.Contract.{Contract};
 ghost use Rattle.cast_spec.specs.Preview.{Previewed};
-ghost use Rattle.answers.specs.Answer.{unconverted};
-use answers::Answer;
 use answers::Preview;
 use answers::Reply;
 use chunk_checks::Checked;
-
-// A call that is refused before its elements.
-fn refused(answer: Answer) -> Reply
-    ensures { λ r. ⌜ r ≡ unconverted answer ⌝ }
-{
-    Reply {
-        answer: answer,
-        counts: counts::no_counts(),
-    }
-}
 
 // Converts a chunk. A refusal 1 to 4 or 8 leaves the destination as it was; 5 to 7 leave it so from the refused element on.
 pub fn convert(
@@ -33,7 +20,7 @@ pub fn convert(
     ensures { λ r. ⌜ Contract (inputs (now (src .entry)) (now (dst .entry)) (now (keys .entry)) (now (targets .entry)) from to rounding range) r (now (dst .exit)) ⌝ }
 {
     match chunk_checks::check(src, dst, keys, targets, from, to, rounding, range) {
-        Checked::Refused(answer) => refused(answer),
+        Checked::Refused(answer) => replies::refused(answer),
         Checked::Passed { settings, count } => {
             chunk_run::run(src, dst, keys, targets, settings, count)
         }
@@ -55,7 +42,7 @@ pub fn preview(
 {
     match chunk_checks::check(src, dst, keys, targets, from, to, rounding, range) {
         Checked::Refused(answer) => Preview {
-            reply: refused(answer),
+            reply: replies::refused(answer),
             changed: 0,
         },
         Checked::Passed { settings, count } => {

@@ -1,3 +1,2 @@
-pub mod Settings
 pub mod Exits
 pub mod Passing

@@ -6,7 +6,7 @@ use Rattle.cast_spec.specs.Chunk.{Inputs, checksOf, allPass, tested, callOf}
 use Rattle.chunk_element.specs.declared.Settings.{Settings}
 use Rattle.chunk_checks.specs.declared.Checked.{Checked}
 use Rattle.chunk_checks.specs.declared.Checked.the-variants.{Refused, Passed}
-use Rattle.chunk_checks.specs.Settings.{settingsBy}
+use Rattle.chunk_settings.specs.Settings.{settingsBy}
 
 -- the settings of a call, as a program has them
 abbrev pub settingsFrom : Inputs → Settings

@@ -1,5 +1,6 @@
-// What a call returns, of its answer and of the tally that it kept.
+// What a call returns: of its answer and of the tally that it kept, or of a refusal before its elements.
 ghost use mathlib.Core.Path.{_≡_};
+ghost use Rattle.answers.specs.Answer.{unconverted};
 ghost use Rattle.tallies.specs.Tally.{countsIn};
 ghost use Rattle.replies.specs.Reply.{replyOf};
 use answers::Answer;
@@ -27,5 +28,15 @@ pub fn reply(answer: Answer, tally: Tally) -> Reply
     Reply {
         answer: answer,
         counts: counts_of(tally),
+    }
+}
+
+// A call that is refused before its elements.
+pub fn refused(refusal: Answer) -> Reply
+    ensures { λ r. ⌜ r ≡ unconverted refusal ⌝ }
+{
+    Reply {
+        answer: refusal,
+        counts: counts::no_counts(),
     }
 }

@@ -11,7 +11,7 @@ use Rattle.cast_spec.proofs.Refusals.{unknown, barred-wrap, broken-map, broken-
 use Rattle.cast_spec.proofs.Widths.{width-pos}
 use Rattle.chunk_element.specs.declared.Settings.{Settings}
 use Rattle.chunk_checks.specs.declared.Checked.the-variants.{Refused, Passed}
-use Rattle.chunk_checks.specs.Settings.{settingsBy}
+use Rattle.chunk_settings.specs.Settings.{settingsBy}
 use Rattle.codes.proofs.Listed.{listed-kinds}
 use Rattle.chunk_checks.proofs.Exits.{refused, passed}
 use borrow.Author.Needs.{needs}

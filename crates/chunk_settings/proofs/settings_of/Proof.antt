@@ -1,13 +1,13 @@
--- `chunk_checks::settings_of` meets its contract: the rows' formats and widths are those of the kinds.
+-- `chunk_settings::settings_of` meets its contract: the rows' formats and widths are those of the kinds.
 use mathlib.Core.Path.{sym, subst}
 use Prim.Native.Nat.{ℕ, _<_}
 use borrow.Author.Needs.{needs}
 use Rattle.kinds.specs.Table.{kindOf}
 use Rattle.kinds.proofs.Listed.{row-width}
 use Rattle.cast_spec.proofs.Widths.{width-pos}
-use Rattle.chunk_checks.proofs.Settings.{settings-are}
-use Rattle.chunk_checks.proofs.settings_of.Statement.{statement}
-use Rattle.chunk_checks.proofs.settings_of.Tie as tie
+use Rattle.chunk_settings.proofs.Settings.{settings-are}
+use Rattle.chunk_settings.proofs.settings_of.Statement.{statement}
+use Rattle.chunk_settings.proofs.settings_of.Tie as tie
 
 div-t13 : tie.Need-div-t13
 div-t13 c =

@@ -1,8 +1,8 @@
--- `chunk_checks::whole_elements` meets its contract: each way's tests are those of the definition.
+-- `lengths::whole_elements` meets its contract: each way's tests are those of the definition.
 use borrow.Author.Tests.{eq-eqb, ne-eqb}
 use borrow.Author.Needs.{needs}
-use Rattle.chunk_checks.proofs.whole_elements.Statement.{statement}
-use Rattle.chunk_checks.proofs.whole_elements.Tie as tie
+use Rattle.lengths.proofs.whole_elements.Statement.{statement}
+use Rattle.lengths.proofs.whole_elements.Tie as tie
 
 returns : tie.Need-returns
 returns c = simp (ne-eqb _ _ (c .if1 .taken))

@@ -1,8 +1,8 @@
--- `chunk_checks::whole_map` meets its contract: whole elements first, and then as many.
+-- `lengths::whole_map` meets its contract: whole elements first, and then as many.
 use mathlib.Core.Path.{sym, _∙_}
 use borrow.Author.Needs.{needs}
-use Rattle.chunk_checks.proofs.whole_map.Statement.{statement}
-use Rattle.chunk_checks.proofs.whole_map.Tie as tie
+use Rattle.lengths.proofs.whole_map.Statement.{statement}
+use Rattle.lengths.proofs.whole_map.Tie as tie
 
 returns : tie.Need-returns
 returns c = simp (sym (c .before .whole-elements .ensures) ∙ c .if1 .taken)

@@ -2,7 +2,7 @@
 use mathlib.Core.Path.{_≡_, ap, ap₂, _∙_}
 use Prim.Native.Nat.{ℕ, _/_}
 use Rattle.chunk_element.specs.declared.Settings.{Settings}
-use Rattle.chunk_checks.specs.Settings.{settingsBy}
+use Rattle.chunk_settings.specs.Settings.{settingsBy}
 use Rattle.kinds.specs.Table.{kindOf}
 use Rattle.codes.specs.Codes.{rangeOf, roundingOf}
 use Rattle.kinds.specs.declared.KindRow.{KindRow}
