@@ -1,3 +1,2 @@
 pub mod EntryTypes
-pub mod FloatKeys
 pub mod Lookups

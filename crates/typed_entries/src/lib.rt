@@ -5,7 +5,6 @@ ghost use Prim.Native.Nat.{_%_, _^_};
 ghost use Rattle.patterns.specs.Value.{valueOf};
 ghost use Rattle.kinds.specs.Table.{kindOf};
 ghost use Rattle.cast_spec.specs.Element.{matches, lookupOf};
-ghost use Rattle.typed_values.specs.Bits.{f64Bits, f32Bits, i64Bits};
 ghost use Rattle.typed_entries.specs.Entries.{f64U8, f64I32, f32U8, f64F32, i64F32};
 use answers::Lookup;
 
@@ -44,50 +43,13 @@ pub struct EntryI64F32 {
     pub target: f32,
 }
 
-// ---- keys
-
-// Whether an entry's key matches the f64 of the pattern x: equal as floats, or both NaN.
-fn key_matches_f64(key: f64, x: u64) -> bool
-    ensures { λ r. ⌜ r ≡ matches (valueOf (kindOf 9) x) (valueOf (kindOf 9) (f64Bits key)) ⌝ }
-{
-    let double = typed_patterns::f64_of(x);
-    if double == key {
-        return true;
-    }
-    if double == double {
-        return false;
-    }
-    key != key
-}
-
-// Whether an entry's key matches the f32 of the lowest 32 bits of x, likewise.
-fn key_matches_f32(key: f32, x: u64) -> bool
-    ensures { λ r. ⌜ r ≡ matches (valueOf (kindOf 8) (x % 2 ^ 32)) (valueOf (kindOf 8) (f32Bits key)) ⌝ }
-{
-    let single = typed_patterns::f32_of(x);
-    if single == key {
-        return true;
-    }
-    if single == single {
-        return false;
-    }
-    key != key
-}
-
-// Whether an entry's key matches the i64 of the pattern x.
-fn key_matches_i64(key: i64, x: u64) -> bool
-    ensures { λ r. ⌜ r ≡ matches (valueOf (kindOf 3) x) (valueOf (kindOf 3) (i64Bits key)) ⌝ }
-{
-    x == typed_values::bits_i64(key)
-}
-
 // ---- f64 to u8
 
 // Whether an entry matches the f64 of the pattern x.
 fn matches_f64_u8(e: EntryF64U8, x: u64) -> bool
     ensures { λ r. ⌜ r ≡ matches (valueOf (kindOf 9) x) (valueOf (kindOf 9) (f64U8 e .key)) ⌝ }
 {
-    key_matches_f64(e.key, x)
+    typed_keys::key_matches_f64(e.key, x)
 }
 
 // An entry's target.
@@ -118,7 +80,7 @@ pub fn lookup_f64_u8(entries: &[EntryF64U8], x: u64) -> Lookup
 fn matches_f64_i32(e: EntryF64I32, x: u64) -> bool
     ensures { λ r. ⌜ r ≡ matches (valueOf (kindOf 9) x) (valueOf (kindOf 9) (f64I32 e .key)) ⌝ }
 {
-    key_matches_f64(e.key, x)
+    typed_keys::key_matches_f64(e.key, x)
 }
 
 // An entry's target.
@@ -149,7 +111,7 @@ pub fn lookup_f64_i32(entries: &[EntryF64I32], x: u64) -> Lookup
 fn matches_f32_u8(e: EntryF32U8, x: u64) -> bool
     ensures { λ r. ⌜ r ≡ matches (valueOf (kindOf 8) (x % 2 ^ 32)) (valueOf (kindOf 8) (f32U8 e .key)) ⌝ }
 {
-    key_matches_f32(e.key, x)
+    typed_keys::key_matches_f32(e.key, x)
 }
 
 // An entry's target.
@@ -180,7 +142,7 @@ pub fn lookup_f32_u8(entries: &[EntryF32U8], x: u64) -> Lookup
 fn matches_f64_f32(e: Entry, x: u64) -> bool
     ensures { λ r. ⌜ r ≡ matches (valueOf (kindOf 9) x) (valueOf (kindOf 9) (f64F32 e .key)) ⌝ }
 {
-    key_matches_f64(e.key, x)
+    typed_keys::key_matches_f64(e.key, x)
 }
 
 // An entry's target.
@@ -211,7 +173,7 @@ pub fn lookup_f64_f32(entries: &[Entry], x: u64) -> Lookup
 fn matches_i64_f32(e: EntryI64F32, x: u64) -> bool
     ensures { λ r. ⌜ r ≡ matches (valueOf (kindOf 3) x) (valueOf (kindOf 3) (i64F32 e .key)) ⌝ }
 {
-    key_matches_i64(e.key, x)
+    typed_keys::key_matches_i64(e.key, x)
 }
 
 // An entry's target.

@@ -1,11 +1,11 @@
--- `typed_entries::key_matches_f32` meets its contract: the law of float keys, at each outcome of the two tests.
+-- `typed_keys::key_matches_f32` meets its contract: the law of float keys, at each outcome of the two tests.
 use mathlib.Core.Path.{refl}
 use Prim.Native.Nat.{_%_, _^_}
 use lib.Ieee.{binary32}
 use borrow.Author.Needs.{needs}
-use Rattle.typed_entries.proofs.FloatKeys.{key-matches}
-use Rattle.typed_entries.proofs.key_matches_f32.Statement.{statement}
-use Rattle.typed_entries.proofs.key_matches_f32.Tie as tie
+use Rattle.typed_keys.proofs.FloatKeys.{key-matches}
+use Rattle.typed_keys.proofs.key_matches_f32.Statement.{statement}
+use Rattle.typed_keys.proofs.key_matches_f32.Tie as tie
 
 returns : tie.Need-returns
 returns c = let t = c .before in let s = t .before in key-matches binary32 (s .args .key) (t .f32-of .result) (s .args .x % 2 ^ 32) (s .good .0 .1) (t .f32-of .ensures) (c .if1 .taken) refl

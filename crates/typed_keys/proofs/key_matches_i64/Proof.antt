@@ -1,4 +1,4 @@
--- `typed_entries::key_matches_i64` meets its contract: integers are equal where their patterns are.
+-- `typed_keys::key_matches_i64` meets its contract: integers are equal where their patterns are.
 use mathlib.Core.Path.{_≡_, ap, _∙_}
 use mathlib.Core.Bool.{true}
 use lib.Dec.{eqb, lit<}
@@ -8,8 +8,8 @@ use borrow.Author.Needs.{needs}
 use Rattle.mapping.proofs.Integers.{integers-match}
 use Rattle.typed_values.proofs.Fits.{i64-fits}
 use Rattle.typed_values.specs.Bits.{i64Bits}
-use Rattle.typed_entries.proofs.key_matches_i64.Tie as tie
-use Rattle.typed_entries.proofs.key_matches_i64.Statement.{statement}
+use Rattle.typed_keys.proofs.key_matches_i64.Tie as tie
+use Rattle.typed_keys.proofs.key_matches_i64.Statement.{statement}
 
 -- a signed number is read back from its bits as it was
 read-back : (c : tie.After-bits-i64) → toZ w64 (ofZ w64 (c .before .args .key)) ≡ c .before .args .key
