@@ -55,7 +55,7 @@ fn steps(b: u64, keys: &[u8], targets: &[u8], s: Settings) -> Fit
     let rounding = s.rounding;
     let range = s.range;
     let found = look_up(b, keys, targets, s);
-    routes::step(b, found, route, rounding, range)
+    route_steps::step(b, found, route, rounding, range)
 }
 
 // What the element at the byte `input` of the source comes to.

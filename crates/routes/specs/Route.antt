@@ -1,9 +1,8 @@
 -- Internal: which of the "Four element conversions" two kinds take.
 use mathlib.Core.Path.{_≡_}
 use mathlib.Core.Bool.{cond, _&&_, Bool·beq}
-use Prim.Native.Nat.{ℕ, _^_, _<_}
 use lib.Dec.{eqb}
-use Rattle.patterns.specs.Kind.{Kind, bits}
+use Rattle.patterns.specs.Kind.{Kind}
 use Rattle.kinds.specs.Row.{integerOf, floatOf, kindIn, IntegerRow, FloatRow, FormatRow}
 use Rattle.kinds.specs.declared.FloatFormat.{FloatFormat}
 use Rattle.kinds.specs.declared.IntegerFormat.{IntegerFormat}
@@ -47,7 +46,3 @@ RouteRow (IntToInt f t) = IntegerRow f × IntegerRow t
 RouteRow (IntToFloat f t) = IntegerRow f × FloatRow t
 RouteRow (FloatToInt f t) = FloatRow f × IntegerRow t
 RouteRow (FloatToFloat f t) = FloatRow f × FloatRow t × (f .precision ≡ t .precision → ⊥)
-
--- b is a pattern of the source kind
-abbrev pub SourcePattern : ℕ → Route → Type 0
-SourcePattern b r = b < 2 ^ bits (sourceOf r)

@@ -1,4 +1,4 @@
--- `routes::step` meets its contract: what was found, or the steps of the route.
+-- `route_steps::step` meets its contract: what was found, or the steps of the route.
 use mathlib.Core.Path.{sym, ap, subst, _∙_}
 use Prim.Native.Nat.{ℕ, _^_, _<_}
 use borrow.Author.Needs.{needs}
@@ -10,13 +10,14 @@ use Rattle.kinds.specs.Row.{IntegerRow, floatOf, integerOf, kindIn}
 use Rattle.kinds.specs.declared.IntegerFormat.{IntegerFormat}
 use Rattle.cast_spec.specs.Fit.{fitOf, unmapped}
 use Rattle.steps.specs.Steps.{foundFit, stepped}
-use Rattle.routes.specs.Route.{RouteRow, SourcePattern, sourceOf, targetOf}
+use Rattle.routes.specs.Route.{RouteRow, sourceOf, targetOf}
 use Rattle.routes.specs.declared.Route.{Route}
 use Rattle.steps.proofs.Found.{found-fit, missing-fit}
 use Rattle.element.proofs.FloatRows.{row-formed}
 use Rattle.steps.proofs.Steps.{float-to-integer-steps, integer-steps, other-precision, unchanged}
-use Rattle.routes.proofs.step.Statement.{statement}
-use Rattle.routes.proofs.step.Tie as tie
+use Rattle.route_steps.specs.Source.{SourcePattern}
+use Rattle.route_steps.proofs.step.Statement.{statement}
+use Rattle.route_steps.proofs.step.Tie as tie
 
 -- a pattern of the source kind
 integer-pattern : (b : ℕ) (f : IntegerFormat) → IntegerRow f → b < 2 ^ f .bits → IntegerPattern b (f .bits)
