@@ -69,6 +69,12 @@ module _ (p w s : ℕ) (two : 2 ≤ p) (some : 0 < w) (most : p ≤ 53) (room : 
       go (inf n) v c = let z : _≡_ {A = ℕ} 0 1 = cc in absurd (omega arith)
       go nan v c = let z : _≡_ {A = ℕ} 0 1 = cc in absurd (omega arith)
 
+  -- the same of an element that was read of the pattern
+  pub read-value : (x : Float) → x ≡ floatOf k b → (m : Scaled) → x .class ≡ Finite m → valueOf k b ≡ num (signed (x .negative) (m .significand * 2 ^ m .exponent))
+  read-value x is m finite =
+      finite-value m (sym (ap (λ (f : Float). f .class) is) ∙ finite)
+      ∙ ap (λ (f : Float). num (signed (f .negative) (m .significand * 2 ^ m .exponent))) (sym is)
+
   formed : (valueOf k b ≡ nan → NanForm k b) → Formed k b
   unfolding patternOf
   formed nans = record {

@@ -35,7 +35,7 @@ use Rattle.floats.specs.Form.{classFor, floatOf}
 use Rattle.floats.specs.declared.Class.the-variants.{Finite}
 use Rattle.floats.specs.declared.Float.{Float}
 use Rattle.floats.proofs.Class.{the-type}
-use Rattle.floats.proofs.Values.{finite-value, scaled-canonical}
+use Rattle.floats.proofs.Values.{read-value, scaled-canonical}
 use Rattle.rounding.specs.Rounding.{unitsOf}
 use Rattle.rounding.proofs.Units.{whole-times-unit}
 use Rattle.integral.specs.Integral.{roundedFrom, roundedOf}
@@ -126,18 +126,16 @@ module _ (p w s : ℕ) (mode : RoundingMode) (b : ℕ) (x : Float) (is : x ≡ f
     abbrev P : ℕ
     P = pickMag (whole 1074) (ruleFor neg mode) (m .significand * 2 ^ m .exponent)
 
-    pub read-value : valueOf k b ≡ num (signed neg (m .significand * 2 ^ m .exponent))
-    read-value =
-        finite-value p w s two positive most room b m (sym (ap (λ (f : Float). f .class) is) ∙ finite)
-        ∙ ap (λ (f : Float). num (signed (f .negative) (m .significand * 2 ^ m .exponent))) (sym is)
+    value : valueOf k b ≡ num (signed neg (m .significand * 2 ^ m .exponent))
+    value = read-value p w s two positive most room b x is m finite
 
     pub own-grid : OnMag (float p s) P
-    own-grid = whole-on (ruleFor neg mode) p s _ (omega arith) within (subst (λ (z : ℕ). OnMag (float p s) z) (abs-signed neg _) (number-of-format p w s two positive b _ read-value .0))
+    own-grid = whole-on (ruleFor neg mode) p s _ (omega arith) within (subst (λ (z : ℕ). OnMag (float p s) z) (abs-signed neg _) (number-of-format p w s two positive b _ value .0))
 
     pub own-range : OnMag (whole 1074) (bitsMag p s (infBits p w - 1)) → P ≤ bitsMag p s (infBits p w - 1)
     own-range top =
         le-trans
-        (pickMag-mono (whole 1074) tt (ruleFor neg mode) _ _ (subst (λ (z : ℕ). z ≤ bitsMag p s (infBits p w - 1)) (abs-signed neg _) (largest-bits p w s _ (number-of-format p w s two positive b _ read-value .1))))
+        (pickMag-mono (whole 1074) tt (ruleFor neg mode) _ _ (subst (λ (z : ℕ). z ≤ bitsMag p s (infBits p w - 1)) (abs-signed neg _) (largest-bits p w s _ (number-of-format p w s two positive b _ value .1))))
         (le-of-eq (ap natAbs (picked-pos (whole 1074) tt (ruleFor neg mode) (bitsMag p s (infBits p w - 1)) .itself top)))
 
     pub rounded-pattern : (t : Ternary) → t ≡ ternaryFor (whole 1074) neg mode (m .significand * 2 ^ m .exponent) → record { bits = withSign (w + p) neg (magBits p s P); ternary = t } ≡ roundedOf k mode b
@@ -148,7 +146,7 @@ module _ (p w s : ℕ) (mode : RoundingMode) (b : ℕ) (x : Float) (is : x ≡ f
         ap₂ {C = Rounded} (λ (z : ℕ) (t : Ternary). record { bits = z; ternary = t })
         (ap₂ (λ (c : Bool) (z : ℕ). withSign (w + p) c (magBits p s z)) (ap (λ (f : Float). f .negative) is) (sym (ap natAbs signed-pick ∙ abs-signed neg P)))
         (lies ∙ ap (ternaryOf (signed neg n)) (sym signed-pick))
-        ∙ ap (roundedFrom k mode b) (sym read-value)
+        ∙ ap (roundedFrom k mode b) (sym value)
 
     -- narrowed from its 53 bits, the whole number is the same
     pub narrowed : pickMag (float p s) (ruleFor neg mode) (scaledOf P .significand * 2 ^ scaledOf P .exponent) ≡ P

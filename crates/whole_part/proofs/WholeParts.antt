@@ -23,10 +23,10 @@ use Rattle.floats.specs.declared.Class.the-variants.{Finite}
 use Rattle.scaled.specs.declared.Scaled.{Scaled}
 use Rattle.floats.specs.declared.Float.{Float}
 use Rattle.floats.proofs.Class.{the-type}
+use Rattle.floats.proofs.Values.{read-value}
 use Rattle.rounding.specs.Rounding.{unitsOf}
 use Rattle.rounding.proofs.Units.{whole-times-unit}
 use Rattle.wrapping.proofs.Residues.{low-bits-mod}
-use Rattle.integral.proofs.WholeFloats.{read-value}
 use Rattle.whole_part.specs.WholePart.{wrappedFrom, wrappedOf}
 
 module _ (n b : ℕ) (x : Float) (is : x ≡ floatOf f64 b) where
@@ -46,4 +46,4 @@ module _ (n b : ℕ) (x : Float) (is : x ≡ floatOf f64 b) where
       low-bits-mod n neg (unitsOf 1074 r u) most
       ∙ sym (whole-pattern false n neg false (unitsOf 1074 r u))
       ∙ ap (λ (z : ℤ). patternOf (integer false n) false z) (sym (pick-signed (whole 1074) tt TowardsZero neg u ∙ ap (signed neg) (whole-times-unit r 1074 u)))
-      ∙ ap (wrappedFrom n) (sym (read-value 53 11 0 TowardsZero b x is (lit≤ tt) (lit< tt) (lit≤ tt) (le-refl _) (lit≤ tt) m finite))
+      ∙ ap (wrappedFrom n) (sym (read-value 53 11 0 (lit≤ tt) (lit< tt) (lit≤ tt) (le-refl _) b x is m finite))
