@@ -69,7 +69,7 @@ use Rattle.typed.specs.Typed.{TypedContract}
 use Rattle.walks.proofs.Again.{LentAgain, lends-again, comes-back}
 use Rattle.walks.proofs.LendArray.{into-memory, out-of-memory}
 use Rattle.typed.proofs.Turns.{Elements, Inv, left, starts, asks, turns}
-use Rattle.typed_sources.specs.Sources.{startOf}
+use Rattle.typed_starts.specs.Starts.{startOf}
 use Rattle.typed_steps.specs.Loop.{outcomeFor, nextState, storedIn, TalliedBy}
 
 -- ---- a pair of kinds: the types of its elements and of its entries, with their patterns

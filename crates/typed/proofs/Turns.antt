@@ -39,7 +39,8 @@ use Rattle.cast_spec.specs.Element.{Entry, Settings, lookupOf, foundOr, outcome
 use Rattle.cast_spec.specs.Fit.{unmapped}
 use Rattle.cast_spec.specs.Chunk.{Inputs, settingsOf, codesListed, mapWhole, bytesWhole, callOf, outcomeAt, answerNext, answerFrom, answerOf, bytesFrom, destinationOf, convertedOf, countsBelow, countsOf, entriesFrom, Refuses}
 use Rattle.typed_states.specs.States.{going, stopped}
-use Rattle.typed_sources.specs.Sources.{stateAt, startOf}
+use Rattle.typed_sources.specs.Sources.{stateAt}
+use Rattle.typed_starts.specs.Starts.{startOf}
 use Rattle.typed_steps.specs.Loop.{outcomeFor, nextState, storedIn, TalliedBy}
 use Rattle.typed.specs.Typed.{bytesOf, typedInputs}
 use Rattle.typed_states.specs.declared.State.{State}

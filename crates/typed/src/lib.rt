@@ -40,7 +40,7 @@ pub fn convert_f64_to_u8(
 ) -> Reply
     ensures { λ r. ⌜ TypedContract 9 4 (map f64Bits (now (src .entry))) (map u8Bits (now (dst .entry))) (map f64U8 (now (entries .entry))) rounding range r (map u8Bits (now (dst .exit))) ⌝ }
 {
-    let mut s = typed_sources::start_f64(src, dst.len(), CODE_U8, rounding, range);
+    let mut s = typed_starts::start_f64(src, dst.len(), CODE_U8, rounding, range);
     let mut tally = tallies::no_tally();
     while s.more {
         let f = typed_entries::lookup_f64_u8(entries, s.x);
@@ -74,7 +74,7 @@ pub fn convert_f64_to_i32(
 ) -> Reply
     ensures { λ r. ⌜ TypedContract 9 2 (map f64Bits (now (src .entry))) (map i32Bits (now (dst .entry))) (map f64I32 (now (entries .entry))) rounding range r (map i32Bits (now (dst .exit))) ⌝ }
 {
-    let mut s = typed_sources::start_f64(src, dst.len(), CODE_I32, rounding, range);
+    let mut s = typed_starts::start_f64(src, dst.len(), CODE_I32, rounding, range);
     let mut tally = tallies::no_tally();
     while s.more {
         let f = typed_entries::lookup_f64_i32(entries, s.x);
@@ -108,7 +108,7 @@ pub fn convert_f32_to_u8(
 ) -> Reply
     ensures { λ r. ⌜ TypedContract 8 4 (map f32Bits (now (src .entry))) (map u8Bits (now (dst .entry))) (map f32U8 (now (entries .entry))) rounding range r (map u8Bits (now (dst .exit))) ⌝ }
 {
-    let mut s = typed_sources::start_f32(src, dst.len(), CODE_U8, rounding, range);
+    let mut s = typed_starts::start_f32(src, dst.len(), CODE_U8, rounding, range);
     let mut tally = tallies::no_tally();
     while s.more {
         let f = typed_entries::lookup_f32_u8(entries, s.x);
@@ -142,7 +142,7 @@ pub fn convert_f64_to_f32(
 ) -> Reply
     ensures { λ r. ⌜ TypedContract 9 8 (map f64Bits (now (src .entry))) (map f32Bits (now (dst .entry))) (map f64F32 (now (entries .entry))) rounding range r (map f32Bits (now (dst .exit))) ⌝ }
 {
-    let mut s = typed_sources::start_f64(src, dst.len(), CODE_F32, rounding, range);
+    let mut s = typed_starts::start_f64(src, dst.len(), CODE_F32, rounding, range);
     let mut tally = tallies::no_tally();
     while s.more {
         let f = typed_entries::lookup_f64_f32(entries, s.x);
@@ -176,7 +176,7 @@ pub fn convert_i64_to_f32(
 ) -> Reply
     ensures { λ r. ⌜ TypedContract 3 8 (map i64Bits (now (src .entry))) (map f32Bits (now (dst .entry))) (map i64F32 (now (entries .entry))) rounding range r (map f32Bits (now (dst .exit))) ⌝ }
 {
-    let mut s = typed_sources::start_i64(src, dst.len(), CODE_F32, rounding, range);
+    let mut s = typed_starts::start_i64(src, dst.len(), CODE_F32, rounding, range);
     let mut tally = tallies::no_tally();
     while s.more {
         let f = typed_entries::lookup_i64_f32(entries, s.x);

@@ -1,5 +1,5 @@
--- The state at a position and at the start is the one that the loop's definitions say.
-use mathlib.Core.Bool.{Bool, true, false, cond}
+-- The state at a position is the one that the loop's definition says.
+use mathlib.Core.Bool.{Bool, cond}
 use mathlib.Core.Path.{_≡_, refl, sym, ap, subst, _∙_}
 use mathlib.Core.List.{List, [], _∷_, map}
 use Prim.Native.Nat.{ℕ, zero, suc, _≤_, _<_}
@@ -10,9 +10,8 @@ use borrow.Author.Tests.{lt-ltb, le-ltb}
 use Rattle.grid.specs.declared.RoundingMode.{RoundingMode}
 use Rattle.codes.specs.declared.OutOfRangeMode.{OutOfRangeMode}
 use Rattle.answers.specs.declared.Answer.the-variants as A
-use Rattle.typed_states.specs.declared.State.{State}
-use Rattle.typed_states.specs.States.{going, stopped, checkOf}
-use Rattle.typed_sources.specs.Sources.{stateAt, startOf}
+use Rattle.typed_states.specs.States.{going, stopped}
+use Rattle.typed_sources.specs.Sources.{stateAt}
 
 -- ---- the state at a position of elements whose patterns `bits` gives
 pub mapped-at : {X : Type 0} (bits : X → ℕ) (xs : List X) (i : ℕ) (d : X) → i < length xs → bits (getD xs i d) ≡ getD (map bits xs) i 0
@@ -30,20 +29,3 @@ module _ {X : Type 0} (bits : X → ℕ) (xs : List X) where
 
     pub past : length xs ≤ i → stopped rule choice i A.Converted ≡ stateAt rule choice (map bits xs) i
     past h = at-test (sym (le-ltb i (length (map bits xs)) (subst (λ (n : ℕ). n ≤ i) (sym (length-map xs bits)) h)))
-
-  -- ---- the start, after the checks have left the state s
-  module _ (m to rounding range : ℕ) (s : State) (e : s ≡ checkOf (length xs) m to rounding range) where
-    checked : s ≡ checkOf (length (map bits xs)) m to rounding range
-    checked = e ∙ ap (λ (n : ℕ). checkOf n m to rounding range) (sym (length-map xs bits))
-
-    started : startOf (map bits xs) m to rounding range ≡ cond (s .more) (stateAt (s .rounding) (s .range) (map bits xs) 0) s
-    started = ap (λ (z : State). cond (z .more) (stateAt (z .rounding) (z .range) (map bits xs) 0) z) (sym checked)
-
-    by-test : {t : Bool} → s .more ≡ t → cond t (stateAt (s .rounding) (s .range) (map bits xs) 0) s ≡ startOf (map bits xs) m to rounding range
-    by-test h = sym (started ∙ ap (λ (b : Bool). cond b (stateAt (s .rounding) (s .range) (map bits xs) 0) s) h)
-
-    pub starts : s .more ≡ true → (r : State) → r ≡ stateAt (s .rounding) (s .range) (map bits xs) 0 → r ≡ startOf (map bits xs) m to rounding range
-    starts h r f = f ∙ by-test h
-
-    pub refuses-start : s .more ≡ false → s ≡ startOf (map bits xs) m to rounding range
-    refuses-start h = by-test h

@@ -6,11 +6,11 @@ use Rattle.typed_entries.proofs.lookup_f32_u8.Symbol as lookup
 use Rattle.typed_entries.proofs.lookup_f32_u8.Met as lookup-thm
 use Rattle.typed.proofs.convert_f32_to_u8.Key.{name}
 use Rattle.typed.proofs.Conversions.{Start, NoTally, LookUp, Step, ReplyOf, typed-call-meets-contract}
-use Rattle.typed_sources.proofs.start_f32.Met as start-thm
+use Rattle.typed_starts.proofs.start_f32.Met as start-thm
 use Rattle.typed.proofs.convert_f32_to_u8 as convert
 use Rattle.typed_states.proofs.reply_of.Met as reply-thm
 use Rattle.typed_steps.proofs.step_f32_u8.Symbol as step
-use Rattle.typed_sources.proofs.start_f32.Symbol as start
+use Rattle.typed_starts.proofs.start_f32.Symbol as start
 use Rattle.typed.proofs.convert_f32_to_u8.Statement as stated
 use Rattle.typed_steps.proofs.step_f32_u8.Met as step-thm
 use Rattle.typed_states.proofs.reply_of.Symbol as reply
@@ -25,7 +25,7 @@ convert-f32-to-u8-spec 𝓤 H 𝓜 𝓖 𝓡 =
     entered 𝓤 H (tripleOf 𝓤 H (𝓖 .A) convert.signature (convert.spec 𝓤 H (𝓖 .A) (𝓜 .mem) (𝓡 .run)))
     (tables 𝓤 H 𝓜 𝓡 code.env .C) (tables 𝓤 H 𝓜 𝓡 code.env .Λ) name code.function (code.unfolded 𝓤 H 𝓜 𝓡)
     (typed-call-meets-contract f32-to-u8 start.name tally.name lookup.name step.name reply.name 𝓤 H (𝓖 .A) (givenOf 𝓤 H 𝓜 𝓖) (tablesOf 𝓤 H 𝓜 (tables 𝓤 H 𝓜 𝓡 code.env))
-    (cited 𝓤 H (Start f32-to-u8 𝓤 H (𝓖 .A)) 𝓜 𝓡 code.env start.name start.routine code.calls-typed-sources·start-f32 (start-thm.met 𝓤 H 𝓜 𝓖 𝓡))
+    (cited 𝓤 H (Start f32-to-u8 𝓤 H (𝓖 .A)) 𝓜 𝓡 code.env start.name start.routine code.calls-typed-starts·start-f32 (start-thm.met 𝓤 H 𝓜 𝓖 𝓡))
     (cited 𝓤 H (NoTally f32-to-u8 𝓤 H (𝓖 .A)) 𝓜 𝓡 code.env tally.name tally.routine code.calls-tallies·no-tally (tally-thm.met 𝓤 H 𝓜 𝓖 𝓡))
     (cited 𝓤 H (LookUp f32-to-u8 𝓤 H (𝓖 .A)) 𝓜 𝓡 code.env lookup.name lookup.routine code.calls-typed-entries·lookup-f32-u8 (lookup-thm.met 𝓤 H 𝓜 𝓖 𝓡))
     (cited 𝓤 H (Step f32-to-u8 𝓤 H (𝓖 .A)) 𝓜 𝓡 code.env step.name step.routine code.calls-typed-steps·step-f32-u8 (step-thm.met 𝓤 H 𝓜 𝓖 𝓡))

@@ -14,10 +14,10 @@ use Rattle.typed_float_steps.proofs.step_i64_f32.Symbol as step
 use Rattle.typed.proofs.Pairs.{i64-to-f32}
 use Rattle.typed.proofs.Conversions.{Start, NoTally, LookUp, Step, ReplyOf, typed-call-meets-contract}
 use Rattle.typed_states.proofs.reply_of.Met as reply-thm
-use Rattle.typed_sources.proofs.start_i64.Met as start-thm
+use Rattle.typed_starts.proofs.start_i64.Met as start-thm
 use Rattle.typed.proofs.convert_i64_to_f32.Statement as stated
 use Rattle.typed.proofs.convert_i64_to_f32.Key.{name}
-use Rattle.typed_sources.proofs.start_i64.Symbol as start
+use Rattle.typed_starts.proofs.start_i64.Symbol as start
 
 pub convert-i64-to-f32-spec : {M : Type 1} → stated.statement M
 unfolding code.routine tablesOf
@@ -25,7 +25,7 @@ convert-i64-to-f32-spec 𝓤 H 𝓜 𝓖 𝓡 =
     entered 𝓤 H (tripleOf 𝓤 H (𝓖 .A) convert.signature (convert.spec 𝓤 H (𝓖 .A) (𝓜 .mem) (𝓡 .run)))
     (tables 𝓤 H 𝓜 𝓡 code.env .C) (tables 𝓤 H 𝓜 𝓡 code.env .Λ) name code.function (code.unfolded 𝓤 H 𝓜 𝓡)
     (typed-call-meets-contract i64-to-f32 start.name tally.name lookup.name step.name reply.name 𝓤 H (𝓖 .A) (givenOf 𝓤 H 𝓜 𝓖) (tablesOf 𝓤 H 𝓜 (tables 𝓤 H 𝓜 𝓡 code.env))
-    (cited 𝓤 H (Start i64-to-f32 𝓤 H (𝓖 .A)) 𝓜 𝓡 code.env start.name start.routine code.calls-typed-sources·start-i64 (start-thm.met 𝓤 H 𝓜 𝓖 𝓡))
+    (cited 𝓤 H (Start i64-to-f32 𝓤 H (𝓖 .A)) 𝓜 𝓡 code.env start.name start.routine code.calls-typed-starts·start-i64 (start-thm.met 𝓤 H 𝓜 𝓖 𝓡))
     (cited 𝓤 H (NoTally i64-to-f32 𝓤 H (𝓖 .A)) 𝓜 𝓡 code.env tally.name tally.routine code.calls-tallies·no-tally (tally-thm.met 𝓤 H 𝓜 𝓖 𝓡))
     (cited 𝓤 H (LookUp i64-to-f32 𝓤 H (𝓖 .A)) 𝓜 𝓡 code.env lookup.name lookup.routine code.calls-typed-entries·lookup-i64-f32 (lookup-thm.met 𝓤 H 𝓜 𝓖 𝓡))
     (cited 𝓤 H (Step i64-to-f32 𝓤 H (𝓖 .A)) 𝓜 𝓡 code.env step.name step.routine code.calls-typed-float-steps·step-i64-f32 (step-thm.met 𝓤 H 𝓜 𝓖 𝓡))
