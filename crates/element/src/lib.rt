@@ -63,7 +63,7 @@ fn as_f64(x: Element) -> u64
     ensures { λ r. ⌜ r ≡ elementF64 x ⌝ }
 {
     match x {
-        Element::Integer(n) => integer_rounding::nearest_f64(n.magnitude, n.negative),
+        Element::Integer(n) => integer_to_f64::nearest_f64(n.magnitude, n.negative),
         Element::Float(f) => floats::write_f64(f),
     }
 }

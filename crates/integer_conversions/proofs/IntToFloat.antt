@@ -27,9 +27,10 @@ use Rattle.floats.specs.Form.{CanonicalClass}
 use Rattle.floats.specs.declared.Class.the-variants.{Finite}
 use Rattle.floats.proofs.Values.{scaled-canonical}
 use Rattle.integers.specs.declared.Integer.{Integer}
-use Rattle.integer_rounding.specs.Precision.{Precision, roundedBits}
-use Rattle.integer_rounding.proofs.Bounds.{pick-in-f64, pick-on}
-use Rattle.integer_rounding.proofs.Scale.{pick-scale}
+use Rattle.integer_rounding.specs.Precision.{Precision}
+use Rattle.integer_to_f64.specs.RoundedBits.{roundedBits}
+use Rattle.integer_to_f64.proofs.Bounds.{pick-in-f64, pick-on}
+use Rattle.integer_to_f64.proofs.Scale.{pick-scale}
 use Rattle.float_range.specs.Range.{fitBits}
 use Rattle.narrowing.specs.Format.{Narrower}
 use Rattle.rebiasing.specs.Rebiased.{Rebiasable, rebiased}

@@ -31,7 +31,7 @@ pub fn convert_int_to_float(
 {
     let negative = x.negative;
     let precision = to.precision;
-    let rounded = integer_rounding::int_to_f64_magnitude(x.magnitude, negative, precision, mode);
+    let rounded = integer_to_f64::int_to_f64_magnitude(x.magnitude, negative, precision, mode);
     let ternary = rounded.ternary;
     match precision {
         53 => Fit::Pattern {

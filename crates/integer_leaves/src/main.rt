@@ -40,7 +40,7 @@ fn integer(magnitude: u64, negative: bool, precision: u32, mode: RoundingMode)
     requires { ⌜ Precision precision ⌝ }
 {
     printing::put_rounded(
-        integer_rounding::int_to_f64_magnitude(magnitude, negative, precision, mode),
+        integer_to_f64::int_to_f64_magnitude(magnitude, negative, precision, mode),
         16,
     );
 }

@@ -1,6 +1,5 @@
 pub mod SignificantBits
 pub mod Steps
 pub mod Sums
-pub mod Scale
+pub mod Picks
 pub mod Rounded
-pub mod Bounds

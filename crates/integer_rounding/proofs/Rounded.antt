@@ -20,7 +20,7 @@ use Rattle.grid.proofs.Sides.{exact-is, step-exact, step-larger}
 use Rattle.integer_rounding.specs.Precision.{Precision, stepsUp}
 use Rattle.integer_rounding.proofs.Steps.{step-by-up}
 use Rattle.integer_rounding.proofs.Sums.{ofInt-exact, add-exact}
-use Rattle.integer_rounding.proofs.Scale.{pick-itself, pick-many-bits}
+use Rattle.integer_rounding.proofs.Picks.{pick-itself, pick-many-bits}
 
 -- what exceeds the precision is dropped
 pub dropped : (p z m : ℕ) → z ≡ size m → p < z → p + (z - p) ≡ size m

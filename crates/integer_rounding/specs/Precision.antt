@@ -1,15 +1,11 @@
 -- Internal: an integer rounded once to a float's precision: "The kept part plus one unit is added in f64 and is exact, so a carry may reach 2^64."
 use mathlib.Core.Bool.{Bool, false}
-use Prim.Native.Nat.{ℕ, _*_, _^_, _≤_}
+use Prim.Native.Nat.{ℕ, _≤_}
 use lib.Dec.{ltb}
 use lib.Ieee.{Float}
 use lib.Ieee.Exact.{HasValue}
-use Rattle.grid.specs.Grid.{float}
-use Rattle.grid.specs.Round.{pickMag, ruleFor, step}
-use Rattle.grid.specs.Ternary.{ternaryFor}
+use Rattle.grid.specs.Round.{step}
 use Rattle.grid.specs.declared.RoundingMode.{RoundingMode}
-use Rattle.grid.specs.declared.Rounded.{Rounded}
-use Rattle.patterns.specs.Pattern.{magBits}
 
 -- "for at most 53 significant bits": a precision that has even and odd numbers, and that an f64 has
 pub record Precision (p : ℕ) : Type 0 where
@@ -23,7 +19,3 @@ pub record Exactly (n : ℕ) (x : Float) : Type 0 where
 -- q units and a rest are rounded to more than q units
 abbrev pub stepsUp : RoundingMode → ℕ → ℕ → ℕ → Bool
 stepsUp r q rest unit = ltb q (step r q rest unit)
-
--- the magnitude n at the precision p: the bits below the sign of the pick as an f64, and where it lies
-abbrev pub roundedBits : ℕ → Bool → RoundingMode → ℕ → Rounded
-roundedBits p neg r n = record { bits = magBits 53 0 (pickMag (float p 0) (ruleFor neg r) n * 2 ^ 1074); ternary = ternaryFor (float p 0) neg r n }

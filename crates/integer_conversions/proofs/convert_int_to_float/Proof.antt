@@ -10,8 +10,8 @@ use Rattle.kinds.specs.Row.{floatOf}
 use Rattle.kinds.specs.declared.FloatFormat.{FloatFormat}
 use Rattle.answers.specs.declared.Fit.the-variants.{Pattern}
 use Rattle.float_fields.proofs.Signs.{signed-sum, signed-fits}
-use Rattle.integer_rounding.specs.Precision.{roundedBits}
-use Rattle.integer_rounding.proofs.Bounds.{pick-bits-lt}
+use Rattle.integer_to_f64.specs.RoundedBits.{roundedBits}
+use Rattle.integer_to_f64.proofs.Bounds.{pick-bits-lt}
 use Rattle.integer_conversions.specs.Fit.{fitInteger}
 use Rattle.kinds.proofs.FloatRows.{double}
 use Rattle.narrowing.proofs.Rows.{row-narrower}

@@ -1,4 +1,4 @@
--- `integer_rounding::int_to_f64_magnitude` meets its contract: a float that is exactly the pick has the bits of the pick, and lies where it does.
+-- `integer_to_f64::int_to_f64_magnitude` meets its contract: a float that is exactly the pick has the bits of the pick, and lies where it does.
 use mathlib.Core.Path.{ap₂}
 use mathlib.Core.Bool.{false}
 use Prim.Native.Nat.{ℕ}
@@ -6,9 +6,9 @@ use borrow.Author.Needs.{needs}
 use Rattle.grid.specs.declared.Rounded.{Rounded}
 use Rattle.grid.specs.declared.Ternary.{Ternary}
 use Rattle.patterns.proofs.IeeeBits.{whole-bits, valued-no-nan}
-use Rattle.integer_rounding.proofs.Scale.{zero-rounded}
-use Rattle.integer_rounding.proofs.int_to_f64_magnitude.Statement.{statement}
-use Rattle.integer_rounding.proofs.int_to_f64_magnitude.Tie as tie
+use Rattle.integer_to_f64.proofs.Scale.{zero-rounded}
+use Rattle.integer_to_f64.proofs.int_to_f64_magnitude.Statement.{statement}
+use Rattle.integer_to_f64.proofs.int_to_f64_magnitude.Tie as tie
 
 returns : tie.Need-returns
 returns c = let a = c .before .args in zero-rounded (a .precision) (a .magnitude) (c .before .pre .two) (a .negative) (a .mode) (c .if1 .taken)

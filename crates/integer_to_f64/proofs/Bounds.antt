@@ -14,8 +14,8 @@ use Rattle.grid.proofs.Picked.{picked-pos, pickMag-mono}
 use Rattle.patterns.specs.Float.{bitsMag, infBits}
 use Rattle.patterns.specs.Pattern.{magBits}
 use Rattle.patterns.proofs.Floats.{inf-lt, mag-lt}
 use Rattle.integer_rounding.specs.Precision.{Precision}
-use Rattle.integer_rounding.proofs.Scale.{pick-scale}
+use Rattle.integer_to_f64.proofs.Scale.{pick-scale}
 
 pick-le-power : (p : ℕ) → 2 ≤ p → (r : RoundingMode) (m k : ℕ) → m ≤ 2 ^ k → pickMag (float p 0) r m ≤ 2 ^ k
 pick-le-power p two r m k h = subst (λ (z : ℕ). pickMag (float p 0) r m ≤ z) own (pickMag-mono (float p 0) two r m (2 ^ k) h)

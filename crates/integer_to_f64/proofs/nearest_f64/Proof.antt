@@ -1,4 +1,4 @@
--- `integer_rounding::nearest_f64` meets its contract: the sign's bit over the bits of the pick.
+-- `integer_to_f64::nearest_f64` meets its contract: the sign's bit over the bits of the pick.
 use mathlib.Core.Path.{_≡_, sym, ap, _∙_}
 use mathlib.Core.Bool.{Bool, true, false}
 use Prim.Native.Nat.{ℕ, _+_, _*_, _%_, _^_, _<_}
@@ -14,10 +14,10 @@ use Rattle.grid.specs.declared.Rounded.{Rounded}
 use Rattle.patterns.specs.Kind.{f64}
 use Rattle.patterns.specs.Pattern.{magBits, patternOf, withSign}
 use Rattle.patterns.proofs.Floats.{abs-signed}
-use Rattle.integer_rounding.proofs.Bounds.{pick-bits-lt}
-use Rattle.integer_rounding.proofs.Scale.{pick-scale-signed}
-use Rattle.integer_rounding.proofs.nearest_f64.Statement.{statement}
-use Rattle.integer_rounding.proofs.nearest_f64.Tie as tie
+use Rattle.integer_to_f64.proofs.Bounds.{pick-bits-lt}
+use Rattle.integer_to_f64.proofs.Scale.{pick-scale-signed}
+use Rattle.integer_to_f64.proofs.nearest_f64.Statement.{statement}
+use Rattle.integer_to_f64.proofs.nearest_f64.Tie as tie
 
 over-sign : (s : Bool) (b : ℕ) → b + boolByte s * 2 ^ 63 % 2 ^ 64 ≡ withSign 64 s b
 over-sign true b = omega arith
