@@ -4,6 +4,7 @@ ghost use mathlib.Core.Path.{_≡_};
 ghost use Prim.Native.Nat.{_≤_, _+_};
 ghost use lib.ListN.{length};
 use answers::Reply;
+use counts::Counts;
 use libc::STDOUT_FILENO;
 
 fn wide(x: u8) -> u64 {
@@ -17,6 +18,20 @@ fn print_bytes(d: &[u8]) {
     }
 }
 
+fn print_count(n: usize) {
+    io::write_all(STDOUT_FILENO, b" ");
+    io::print_decimal(STDOUT_FILENO, n as u64);
+}
+
+fn print_counts(c: Counts) {
+    print_count(c.mapped);
+    print_count(c.exact);
+    print_count(c.rounded);
+    print_count(c.clamped);
+    print_count(c.wrapped);
+    io::write_all(STDOUT_FILENO, b"\n");
+}
+
 fn print_reply(r: Reply, d: &[u8]) {
     let a = r.answer;
     let c = r.counts;
@@ -28,8 +43,7 @@ fn print_reply(r: Reply, d: &[u8]) {
     }
     io::write_all(STDOUT_FILENO, b": ");
     print_bytes(d);
-    printing::print_counts(c);
-    io::write_all(STDOUT_FILENO, b"\n");
+    print_counts(c);
 }
 
 // The first sw bytes of s to the first dw bytes of d, with no map.

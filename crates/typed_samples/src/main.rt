@@ -1,6 +1,7 @@
 // Typed samples through each typed call. Each line is the pair, the rounding and range codes, the answer's number, the position of a refusal, the five counts, and
 // the patterns of the destination's elements.
 use answers::Reply;
+use counts::Counts;
 use libc::STDOUT_FILENO;
 use typed_entries::Entry;
 use typed_entries::EntryF32U8;
@@ -13,6 +14,21 @@ fn wide(x: u8) -> u64 {
 }
 
 // ---- output
+
+fn print_count(n: usize) {
+    io::write_all(STDOUT_FILENO, b" ");
+    io::print_decimal(STDOUT_FILENO, n as u64);
+}
+
+// Mapped, exact, rounded, clamped, wrapped.
+fn print_counts(c: Counts) {
+    io::write_all(STDOUT_FILENO, b",");
+    print_count(c.mapped);
+    print_count(c.exact);
+    print_count(c.rounded);
+    print_count(c.clamped);
+    print_count(c.wrapped);
+}
 
 fn print_reply(rounding: u8, range: u8, r: Reply) {
     let a = r.answer;
@@ -27,8 +43,7 @@ fn print_reply(rounding: u8, range: u8, r: Reply) {
         io::write_all(STDOUT_FILENO, b" at ");
         io::print_decimal(STDOUT_FILENO, answer_numbers::position(a) as u64);
     }
-    io::write_all(STDOUT_FILENO, b",");
-    printing::print_counts(c);
+    print_counts(c);
     io::write_all(STDOUT_FILENO, b":");
 }
 

@@ -1,11 +1,11 @@
--- `integer_leaves::elements` fetches within the bytes. The measure is what is left of the elements.
+-- `leaves::elements` fetches within the bytes. The measure is what is left of the elements.
 use Prim.Native.Nat.{_-_, _≤_}
 use native.Mathlib.Omega.{arith}
 use denote.Ref.{now}
 use borrow.Author.Needs.{needs}
 use Rattle.bytes_le.proofs.Widths.{element-place, width-most}
-use Rattle.integer_leaves.proofs.elements.Statement.{statement}
-use Rattle.integer_leaves.proofs.elements.Tie as tie
+use Rattle.leaves.proofs.elements.Statement.{statement}
+use Rattle.leaves.proofs.elements.Tie as tie
 
 abbrev Inv-loop : tie.InvT-loop
 Inv-loop s n width i₀ i = i ≤ n

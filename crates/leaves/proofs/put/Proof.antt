@@ -1,9 +1,9 @@
--- `integer_leaves::put` meets its contract: eight bytes are the width of a kind.
+-- `leaves::put` meets its contract: eight bytes are the width of a kind.
 use mathlib.Core.Path.{refl}
 use mathlib.Core.Logic.{inr}
 use borrow.Author.Needs.{needs}
-use Rattle.integer_leaves.proofs.put.Statement.{statement}
-use Rattle.integer_leaves.proofs.put.Tie as tie
+use Rattle.leaves.proofs.put.Statement.{statement}
+use Rattle.leaves.proofs.put.Tie as tie
 
 write-le-requires : tie.Need-write-le-requires
 write-le-requires c κs = record { width = inr (inr (inr refl)); within = search needs }
