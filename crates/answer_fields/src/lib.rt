@@ -1,4 +1,6 @@
 // What an exported call leaves for C and for Rust: the answer's number, and its values and the counts as fields of 64 bits.
+#![tactic(auto)]
+
 ghost use Rattle.std.specs.Prelude.{◌≡◌};
 ghost use Rattle.answers.specs.Answer.{number_of};
 ghost use Rattle.answer_fields.specs.Returned.{value_fields, fields_of};

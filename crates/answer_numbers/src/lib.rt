@@ -1,4 +1,6 @@
 // The papers' number of an answer, and the position of the element that it names.
+#![tactic(auto)]
+
 ghost use Rattle.std.specs.Prelude.{◌≡◌};
 ghost use Rattle.answers.specs.Answer.{number_of, position_of, names_position};
 

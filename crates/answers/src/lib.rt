@@ -1,4 +1,6 @@
 // What a call or one element of it can answer.
+#![tactic(auto)]
+
 ghost use Rattle.std.specs.Prelude.{◌≡◌};
 
 use counts::{Counts, Fared};

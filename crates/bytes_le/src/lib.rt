@@ -1,5 +1,7 @@
 // Numbers as bytes, lowest first, read straight from a chunk's own bytes. `get_le` is of any width to 8; with the width fixed, in a function of its own,
 // the compiler makes one load of the loop.
+#![tactic(auto)]
+
 ghost use Rattle.std.specs.Prelude.{◌+◌, ◌*◌, ◌≤◌, length};
 ghost use Rattle.bytes_le.specs.Bytes.{Place};
 ghost use Rattle.bytes_le.specs.Fetch.{Fetched};

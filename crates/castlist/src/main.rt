@@ -1,4 +1,6 @@
 // Reads from standard input what to cast, and writes the listing to standard output.
+#![tactic(auto)]
+
 use libc::{STDERR_FILENO, STDIN_FILENO, STDOUT_FILENO};
 
 fn main() {

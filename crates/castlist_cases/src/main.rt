@@ -1,4 +1,6 @@
 // Listings of whole inputs, each under a line that names the case.
+#![tactic(auto)]
+
 use libc::STDOUT_FILENO;
 
 // Writes a case's name and its listing.

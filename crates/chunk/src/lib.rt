@@ -1,4 +1,6 @@
 // The chunk call: source bytes of one kind converted to destination bytes of another, element by element; and its preview.
+#![tactic(auto)]
+
 ghost use Rattle.cast_spec.specs.Chunk.{inputs};
 ghost use Rattle.cast_spec.specs.Contract.{Contract};
 ghost use Rattle.cast_spec.specs.Preview.{Previewed};

@@ -1,4 +1,6 @@
 // The checks of a call before its elements.
+#![tactic(auto)]
+
 ghost use Rattle.std.specs.Prelude.{◌≡◌};
 ghost use Rattle.cast_spec.specs.Chunk.{inputs};
 ghost use Rattle.chunk_checks.specs.Checked.{checked_of};

@@ -1,4 +1,6 @@
 // One element of a chunk: read at its byte, looked up in the map and taken through its steps, and the answer where it is refused.
+#![tactic(auto)]
+
 ghost use Rattle.std.specs.Prelude.{◌≡◌, take, drop};
 ghost use Rattle.bytes_le.specs.Bytes.{from_le};
 ghost use Rattle.cast_spec.specs.Element.{outcome_of};

@@ -1,4 +1,6 @@
 // The elements of a chunk as a run takes them, with nothing stored: what the run would reply, and how many bytes it would change.
+#![tactic(auto)]
+
 ghost use Rattle.chunk_element.specs.Settings.{settings_for};
 ghost use Rattle.chunk_run.specs.Run.{RunReady};
 ghost use Rattle.chunk_preview.specs.Foreseen.{Foreseen};

@@ -1,4 +1,6 @@
 // The elements of a chunk in the order of their positions, up to the first refusal, and the counts of those that are converted.
+#![tactic(auto)]
+
 ghost use Rattle.std.specs.Prelude.{◌≡◌};
 ghost use Rattle.chunk_element.specs.Settings.{settings_for};
 ghost use Rattle.chunk_run.specs.Run.{RunReady, Ran};

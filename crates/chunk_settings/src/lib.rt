@@ -1,4 +1,6 @@
 // The settings of a call, of its codes.
+#![tactic(auto)]
+
 ghost use Rattle.std.specs.Prelude.{◌≡◌, ◌<◌};
 ghost use Rattle.chunk_settings.specs.Settings.{settings_by};
 

@@ -1,4 +1,6 @@
 // The codes of a call: which are listed, which are barred together, and the rounding and the range choice that they name.
+#![tactic(auto)]
+
 ghost use Rattle.std.specs.Prelude.{◌≡◌, ◌&&◌, ltb};
 ghost use Rattle.codes.specs.Codes.{rounding_of, range_of, wrap_barred};
 

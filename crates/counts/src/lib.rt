@@ -1,4 +1,6 @@
 // How a converted element fared, and how many fared so.
+#![tactic(auto)]
+
 ghost use Rattle.std.specs.Prelude.{◌≡◌};
 ghost use Rattle.counts.specs.Counts.{by_pick, no_counts};
 

@@ -1,4 +1,6 @@
 // An element of any kind: read from its pattern, and what it came to with the fields of a refusal.
+#![tactic(auto)]
+
 ghost use Rattle.std.specs.Prelude.{◌≡◌};
 ghost use Rattle.patterns.specs.Pattern.{as_f64};
 ghost use Rattle.kinds.specs.Row.{float_of, kind_in, FormatRow};

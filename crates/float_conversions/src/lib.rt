@@ -1,4 +1,6 @@
 // A float element to an integer kind and to a float kind, from its sign and class to the pattern of the kind's format.
+#![tactic(auto)]
+
 ghost use Rattle.std.specs.Prelude.{◌≡◌, ◌*◌, ◌^◌};
 ghost use Rattle.grid.specs.Round.{signed};
 ghost use Rattle.kinds.specs.Row.{integer_of, float_of, IntegerRow, FloatRow};

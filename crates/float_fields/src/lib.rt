@@ -1,4 +1,6 @@
 // The fields of a float's bits: its sign, exponent field and fraction, and those of a narrower float as an f32's.
+#![tactic(auto)]
+
 ghost use Rattle.std.specs.Prelude.{◌≡◌, cond, ◌^◌, ◌<◌, ◌≤◌};
 ghost use Rattle.float_fields.specs.Parts.{parts_of};
 ghost use Rattle.float_fields.specs.Widened.{widened_field, widened_of};

@@ -1,4 +1,6 @@
 // The range of a float kind narrower than f64: the bits of a pick are stored, and those that reach an infinity's are clamped to it or refused, by the range choice.
+#![tactic(auto)]
+
 ghost use Rattle.std.specs.Prelude.{◌≡◌};
 ghost use Rattle.patterns.specs.Float.{inf_bits};
 ghost use Rattle.patterns.specs.Pattern as pattern;

@@ -1,5 +1,7 @@
 // A float's bit pattern read by its fields: the number, the infinity or the NaN that it stands for. A float of any format is read as the f64 that has its
 // value, so that whatever follows knows one form.
+#![tactic(auto)]
+
 ghost use Rattle.std.specs.Prelude.{◌≡◌, ℕ};
 ghost use Rattle.patterns.specs.Kind.{binary, f16, f32, f64};
 ghost use Rattle.float_fields.specs.Widened.{Widens, WidenedFields, widened_of};

@@ -1,4 +1,6 @@
 // Numbers, grids and picks: the theory that every conversion stands on. specs/ says what a pick is, proofs/ shows its laws.
+#![tactic(auto)]
+
 ghost use Rattle.std.specs.Prelude.{◌≡◌, ℕ, eqb, ltb};
 ghost use Rattle.grid.specs.Round.{signed};
 ghost use Rattle.grid.specs.Ternary.{ternary_of};

@@ -1,4 +1,6 @@
 // The Hamming distance of bytes: at how many places two rows of them differ.
+#![tactic(auto)]
+
 ghost use Rattle.std.specs.Prelude.{◌≡◌, ◌+◌, ◌≤◌, length, take, drop};
 ghost use Rattle.bytes_le.specs.Bytes.{to_le};
 ghost use Rattle.hamming.specs.Distance.{distance};

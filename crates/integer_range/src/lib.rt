@@ -1,4 +1,6 @@
 // The range of an integer kind: a whole number is stored, clamped, wrapped or refused, by the range choice.
+#![tactic(auto)]
+
 ghost use Rattle.std.specs.Prelude.{◌≡◌, cond};
 ghost use Rattle.counts.specs.Counts.{by_pick};
 ghost use Rattle.kinds.specs.Row.{integer_of, IntegerRow};

@@ -1,4 +1,6 @@
 // An integer rounded once to a float's precision, by its sign and magnitude.
+#![tactic(auto)]
+
 ghost use Rattle.std.specs.Prelude.{◌≡◌, ◌<◌};
 ghost use Rattle.std.specs.Float.Ieee.{size};
 ghost use Rattle.grid.specs.Grid.{float};

@@ -1,4 +1,6 @@
 // An integer by its sign and magnitude, rounded once to a float's precision, as the bits of an f64; and its nearest f64.
+#![tactic(auto)]
+
 ghost use Rattle.std.specs.Prelude.{◌≡◌, ◌*◌, ◌^◌};
 ghost use Rattle.grid.specs.Grid.{float};
 ghost use Rattle.grid.specs.Round.{pick, signed};

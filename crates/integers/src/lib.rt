@@ -1,4 +1,6 @@
 // An integer pattern's sign and magnitude.
+#![tactic(auto)]
+
 ghost use Rattle.std.specs.Prelude.{◌≡◌};
 ghost use Rattle.patterns.specs.Kind.{integer};
 ghost use Rattle.integers.specs.Magnitude.{IntegerPattern, magnitude_of};

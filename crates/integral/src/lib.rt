@@ -1,4 +1,6 @@
 // A float rounded to a whole number in its own format.
+#![tactic(auto)]
+
 ghost use Rattle.std.specs.Prelude.{◌≡◌, ◌*◌, ◌^◌, ◌<◌, ◌≤◌};
 ghost use Rattle.patterns.specs.Kind.{binary, f16, f32, f64};
 ghost use Rattle.scaled.specs.Scaled.{Canonical};

@@ -1,4 +1,6 @@
 // The eleven number kinds, in one constant table.
+#![tactic(auto)]
+
 ghost use Rattle.std.specs.Prelude.{◌≡◌, ◌<◌};
 ghost use Rattle.kinds.specs.Table.{kind_of};
 ghost use Rattle.kinds.specs.Row.{row_of};

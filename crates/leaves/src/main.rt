@@ -1,5 +1,7 @@
 // The functions below the chunk call on the samples and on the ends of each kind: a line names the function and has what it was given and what it
 // answered, in hexadecimal.
+#![tactic(auto)]
+
 ghost use Rattle.std.specs.Prelude.{◌≡◌, ◌<◌, ◌≤◌, ◌+◌, ◌*◌, length};
 ghost use Rattle.bytes_le.specs.Bytes.{Width};
 ghost use Rattle.kinds.specs.Row.{FloatRow};

@@ -1,4 +1,6 @@
 // Whether lengths in bytes are whole elements.
+#![tactic(auto)]
+
 ghost use Rattle.std.specs.Prelude.{◌≡◌, ◌&&◌, ◌/◌, ◌%◌, ◌<◌, eqb};
 
 // Whether two lengths are whole elements, of a bytes and of b bytes each.

@@ -1,4 +1,6 @@
 // The listing of a cast: what standard input asks, converted and written as text into a lent buffer.
+#![tactic(auto)]
+
 ghost use Rattle.std.specs.Prelude.{◌≡◌, ◌≤◌, length, take};
 ghost use Rattle.text.specs.Wrote.{Wrote};
 ghost use Rattle.listing_input.specs.Input.{chunk_of};

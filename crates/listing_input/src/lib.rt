@@ -1,4 +1,6 @@
 // An input of the listing: where its parts start, and the number that it is refused with before its call.
+#![tactic(auto)]
+
 ghost use Rattle.std.specs.Prelude.{◌≡◌};
 ghost use Rattle.listing_input.specs.Input.{refusal_of};
 ghost use Rattle.listing_input.specs.Layouts.{HeadIn, layout_of};

@@ -1,4 +1,6 @@
 // The scalar map: a lookup over lent key and target bytes.
+#![tactic(auto)]
+
 ghost use Rattle.std.specs.Prelude.{◌≡◌, Bool, ℕ, ◌*◌};
 ghost use Rattle.patterns.specs.Kind.{integer, binary, bits};
 ghost use Rattle.patterns.specs.Value.{value_of};

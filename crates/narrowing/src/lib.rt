@@ -1,4 +1,6 @@
 // A float rounded once to a narrower format: a finite magnitude, an infinity and a NaN, for any format narrower than f64.
+#![tactic(auto)]
+
 ghost use Rattle.std.specs.Prelude.{◌≡◌, ℕ, ◌*◌, ◌^◌, ◌<◌};
 ghost use Rattle.grid.specs.Round.{signed};
 ghost use Rattle.grid.specs.declared.RoundingMode.{RoundingMode};

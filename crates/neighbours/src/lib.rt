@@ -1,4 +1,6 @@
 // The next number of f16, f32 and f64 up and down.
+#![tactic(auto)]
+
 ghost use Rattle.std.specs.Prelude.{◌≡◌, ◌+◌, ◌-◌, ◌<◌};
 ghost use Rattle.std.specs.Int.Bits.{bit_and};
 ghost use Rattle.neighbours.specs.Next.{SignBit, up_by, next_up, next_down};

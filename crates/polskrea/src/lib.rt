@@ -1,4 +1,6 @@
 // The library's calls for C and for Rust: the chunk call over bytes, and the version.
+#![tactic(auto)]
+
 ghost use Rattle.std.specs.Prelude.{◌≡◌};
 ghost use Rattle.cast_spec.specs.Chunk.{inputs};
 ghost use Rattle.answer_fields.specs.Returned.{Returned};

@@ -1,4 +1,6 @@
 // The preview of the chunk call, for C and for Rust. In one library with the call the compiler would inline an element's steps in neither loop.
+#![tactic(auto)]
+
 ghost use Rattle.cast_spec.specs.Chunk.{inputs};
 ghost use Rattle.answer_fields.specs.Returned.{ReturnedPreview};
 

@@ -1,4 +1,6 @@
 // A number that f64 has in the bits of a narrower format: the exponent field counts from another start, and nothing is rounded.
+#![tactic(auto)]
+
 ghost use Rattle.std.specs.Prelude.{◌≡◌};
 ghost use Rattle.float_range.specs.Range.{FormatBits, fit_bits};
 ghost use Rattle.narrowing.specs.Format.{Narrower};

@@ -1,4 +1,6 @@
 // The answer to the refusal of an element, with its position.
+#![tactic(auto)]
+
 ghost use Rattle.refusals.specs.Refusal.{RefusalOf};
 
 use answers::{Answer, Outcome};

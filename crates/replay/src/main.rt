@@ -1,5 +1,7 @@
 // Replays the list of answers that are due, the original's and with f16 those of exact integers: converts each case of the file data/list and says in how many the answer or the destination
 // differs. tools/compare --list writes the file; tools/driver/src/list.rs says how a case stands in it.
+#![tactic(auto)]
+
 ghost use Rattle.std.specs.Prelude.{◌≡◌, ◌+◌, ◌<◌, ◌≤◌, length};
 
 use libc::STDOUT_FILENO;

@@ -1,4 +1,6 @@
 // What a call returns: of its answer and of the tally that it kept, or of a refusal before its elements.
+#![tactic(auto)]
+
 ghost use Rattle.std.specs.Prelude.{◌≡◌};
 ghost use Rattle.answers.specs.Answer.{unconverted};
 ghost use Rattle.tallies.specs.Tally.{counts_in};

@@ -1,4 +1,6 @@
 // What a chunk call reports: a first line, then a line for each converted element.
+#![tactic(auto)]
+
 ghost use Rattle.std.specs.Prelude.{◌<◌, ◌≤◌, length, take, drop};
 ghost use Rattle.bytes_le.specs.Bytes.{from_le};
 ghost use Rattle.text.specs.Wrote.{Wrote};

@@ -1,4 +1,6 @@
 // Rounding by a rule: low bits dropped from a magnitude.
+#![tactic(auto)]
+
 ghost use Rattle.std.specs.Prelude.{◌≡◌, ◌^◌, ◌<◌, min};
 ghost use Rattle.grid.specs.Round.{rule_for};
 ghost use Rattle.rounding.specs.Rounding.{increment_of, Droppable, shifted};

@@ -1,4 +1,6 @@
 // An element's steps by the route of its two kinds.
+#![tactic(auto)]
+
 ghost use Rattle.std.specs.Prelude.{◌≡◌};
 ghost use Rattle.steps.specs.Steps.{stepped};
 ghost use Rattle.routes.specs.Route.{source_of, target_of, RouteRow};

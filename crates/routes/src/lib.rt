@@ -1,4 +1,6 @@
 // The route of two kinds: which of the four conversions an element takes.
+#![tactic(auto)]
+
 ghost use Rattle.std.specs.Prelude.{◌≡◌};
 ghost use Rattle.routes.specs.Route.{integer_route, float_route, route_of};
 

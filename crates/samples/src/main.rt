@@ -1,5 +1,7 @@
 // The fourteen samples, wrap with a float target, half precision, a chunk of two elements and one of four under clamp and wrap, as bytes through the chunk call: each line is the answer's number,
 // the position of a refusal, the destination's bytes, which began as aa, and the counts mapped, exact, rounded, clamped and wrapped.
+#![tactic(auto)]
+
 ghost use Rattle.std.specs.Prelude.{◌≡◌, ◌≤◌, ◌+◌, length};
 
 use answers::Reply;

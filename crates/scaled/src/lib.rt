@@ -1,4 +1,6 @@
 // A finite float's magnitude by significand and exponent: a number normalized to it, and its bits as an f64.
+#![tactic(auto)]
+
 ghost use Rattle.std.specs.Prelude.{◌≡◌, ◌*◌, ◌^◌, ◌<◌, ◌≤◌};
 ghost use Rattle.scaled.specs.Scaled.{scaled_of, Canonical, finite_bits};
 

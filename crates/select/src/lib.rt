@@ -1,4 +1,6 @@
 // One of two numbers by a condition, with no jump on it.
+#![tactic(auto)]
+
 ghost use Rattle.std.specs.Prelude.{◌≡◌, cond};
 
 // The one number where the condition holds, and else the other.

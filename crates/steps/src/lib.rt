@@ -1,4 +1,6 @@
 // The steps of an element: the target that the map found for it, or its conversion.
+#![tactic(auto)]
+
 ghost use Rattle.std.specs.Prelude.{◌≡◌};
 ghost use Rattle.grid.specs.declared.RoundingMode.{RoundingMode};
 ghost use Rattle.kinds.specs.Row.{integer_of, float_of, IntegerRow, FloatRow};

@@ -1,5 +1,7 @@
 // A number put as bytes, lowest first, straight into a chunk's own bytes. `put_le` is of any width to 8; with the width fixed, in a function of its own,
 // the compiler makes one store of the loop.
+#![tactic(auto)]
+
 ghost use Rattle.std.specs.Prelude.{◌≡◌, ◌+◌, ◌≤◌, length};
 ghost use Rattle.bytes_le.specs.Bytes.{Place, put};
 

@@ -1,4 +1,6 @@
 // The counts of a call while it runs: a row with a place for each way to fare.
+#![tactic(auto)]
+
 ghost use Rattle.std.specs.Prelude.{◌≡◌};
 ghost use Rattle.counts.specs.Counts.{place_of};
 ghost use Rattle.tallies.specs.Tally.{no_tally, one_more_at, CountableAt, Countable, Tallied};

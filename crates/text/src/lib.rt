@@ -1,4 +1,6 @@
 // Bytes, words and numbers as text, put one after the other into a lent buffer.
+#![tactic(auto)]
+
 ghost use Rattle.std.specs.Prelude.{◌≡◌, [], ◌∷◌, ◌+◌, ◌<◌, ◌≤◌, length};
 ghost use Rattle.text.specs.Text.{glyph_of, digits, places, decimal};
 ghost use Rattle.text.specs.Wrote.{Wrote};

@@ -1,4 +1,6 @@
 // The map of a typed call: entries of a key and a target, and the target of the first entry that matches.
+#![tactic(auto)]
+
 ghost use Rattle.std.specs.Prelude.{◌≡◌, map, ◌%◌, ◌^◌};
 ghost use Rattle.patterns.specs.Value.{value_of};
 ghost use Rattle.kinds.specs.Table.{kind_of};

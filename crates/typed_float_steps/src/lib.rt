@@ -1,4 +1,6 @@
 // One element of a typed call to f32: its steps, its store and its count.
+#![tactic(auto)]
+
 ghost use Rattle.std.specs.Prelude.{◌≡◌, map, ◌<◌, ◌^◌, length};
 ghost use Rattle.typed_values.specs.Bits.{f64Bits, i64Bits};
 ghost use Rattle.typed_patterns.specs.Values.{f32Of};

@@ -1,4 +1,6 @@
 // Whether the key of a typed call's map entry matches a pattern.
+#![tactic(auto)]
+
 ghost use Rattle.std.specs.Prelude.{◌≡◌, ◌%◌, ◌^◌};
 ghost use Rattle.patterns.specs.Value.{value_of};
 ghost use Rattle.kinds.specs.Table.{kind_of};

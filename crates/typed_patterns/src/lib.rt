@@ -1,4 +1,6 @@
 // The value of a pattern's lowest bits.
+#![tactic(auto)]
+
 ghost use Rattle.std.specs.Prelude.{◌≡◌};
 ghost use Rattle.typed_patterns.specs.Values.{u8Of, i32Of, f32Of, f64Of};
 

@@ -1,5 +1,7 @@
 // Typed samples through each typed call. Each line is the pair, the rounding and range codes, the answer's number, the position of a refusal, the five counts, and
 // the patterns of the destination's elements.
+#![tactic(auto)]
+
 use answers::Reply;
 use counts::Counts;
 use libc::STDOUT_FILENO;

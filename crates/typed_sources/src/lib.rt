@@ -1,4 +1,6 @@
 // The state of a typed call's loop at an element of a source slice.
+#![tactic(auto)]
+
 ghost use Rattle.std.specs.Prelude.{◌≡◌, map};
 ghost use Rattle.typed_values.specs.Bits.{f64Bits, f32Bits, i64Bits};
 ghost use Rattle.typed_sources.specs.Sources.{state_at};

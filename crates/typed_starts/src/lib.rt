@@ -1,4 +1,6 @@
 // The start of a typed call: its checks, and the state of its loop at the first element of a source slice.
+#![tactic(auto)]
+
 ghost use Rattle.std.specs.Prelude.{◌≡◌, map};
 ghost use Rattle.typed_values.specs.Bits.{f64Bits, f32Bits, i64Bits};
 ghost use Rattle.typed_starts.specs.Starts.{start_of};

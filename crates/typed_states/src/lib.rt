@@ -1,4 +1,6 @@
 // The state of a typed call's loop, whatever the source: after the checks, at an element's pattern, and at the end.
+#![tactic(auto)]
+
 ghost use Rattle.std.specs.Prelude.{◌≡◌};
 ghost use Rattle.cast_spec.specs.Chunk.{answer_next};
 ghost use Rattle.tallies.specs.Tally.{counts_in};

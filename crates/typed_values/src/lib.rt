@@ -1,4 +1,6 @@
 // The pattern of a typed value.
+#![tactic(auto)]
+
 ghost use Rattle.std.specs.Prelude.{◌≡◌};
 ghost use Rattle.typed_values.specs.Bits.{f64Bits, f32Bits, i64Bits, i32Bits, u8Bits};
 

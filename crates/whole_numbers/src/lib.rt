@@ -1,4 +1,6 @@
 // A finite float rounded to a whole number.
+#![tactic(auto)]
+
 ghost use Rattle.std.specs.Prelude.{◌≡◌, ◌*◌, ◌^◌};
 ghost use Rattle.scaled.specs.Scaled.{Canonical};
 ghost use Rattle.whole_numbers.specs.Whole.{whole_of};

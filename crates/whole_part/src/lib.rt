@@ -1,4 +1,6 @@
 // The lowest bits of an f64's whole part.
+#![tactic(auto)]
+
 ghost use Rattle.std.specs.Prelude.{◌≡◌, ◌<◌, ◌≤◌};
 ghost use Rattle.whole_part.specs.WholePart.{wrapped_of};
 

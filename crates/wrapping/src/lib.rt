@@ -1,4 +1,6 @@
 // Whole numbers reduced to the bits of an integer kind, two's complement.
+#![tactic(auto)]
+
 ghost use Rattle.std.specs.Prelude.{◌≡◌, ◌<◌, ◌≤◌};
 ghost use Rattle.grid.specs.Round.{signed};
 ghost use Rattle.patterns.specs.Pattern.{low_bits};
