@@ -1,5 +1,5 @@
 -- One byte more is summed at its place, and all of them are the number.
-use Rattle.std.proofs.Common.{◌+◌, ◌<◌, get_or}
+use Rattle.std.proofs.Common.{◌+◌}
 use Rattle.bytes_le.proofs.Fetches.{all_summed, one_more_summed, sum_fits}
 use Rattle.bytes_le.proofs.get_le.Goals as goal
 
