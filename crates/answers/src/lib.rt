@@ -6,7 +6,7 @@ ghost use Rattle.std.specs.Prelude.{◌≡◌};
 use counts::{Counts, Fared};
 
 // What one element comes to: the target pattern that is stored, and how it fared, or why it is refused. A value and a float's ends are f64 patterns.
-#[derive(Drop)]
+#[derive(Clone, Copy)]
 pub enum Outcome {
     Stored { pattern: u64, fared: Fared },
     NanOrInf { value: u64 },
@@ -15,14 +15,14 @@ pub enum Outcome {
 }
 
 // What the map gives for an element: the target pattern of the first matching entry, or none.
-#[derive(Drop)]
+#[derive(Clone, Copy)]
 pub enum Lookup {
     Found(u64),
     Missing,
 }
 
 // What a chunk call answers: all converted, or one of the eight refusals in the order of their numbers.
-#[derive(Drop)]
+#[derive(Clone, Copy)]
 pub enum Answer {
     Converted,
     UnknownCode,
@@ -52,21 +52,21 @@ pub enum Answer {
 }
 
 // What a call returns: its answer, and how the elements fared that it converted.
-#[derive(Drop)]
+#[derive(Clone, Copy)]
 pub struct Reply {
     pub answer: Answer,
     pub counts: Counts,
 }
 
 // What a preview returns: the reply of the call, and how many bytes of its destination the call would change.
-#[derive(Drop)]
+#[derive(Clone, Copy)]
 pub struct Preview {
     pub reply: Reply,
     pub changed: usize,
 }
 
 // What a conversion leaves of an element: the target pattern to store, and how the element fared, or why there is none.
-#[derive(Drop)]
+#[derive(Clone, Copy)]
 pub enum Fit {
     Pattern { pattern: u64, fared: Fared },
     NotFinite,

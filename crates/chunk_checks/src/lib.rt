@@ -9,7 +9,7 @@ use answers::Answer;
 use chunk_element::Settings;
 
 // What the checks come to: the refusal of the first that is not passed, or the call's settings and how many elements it has.
-#[derive(Drop)]
+#[derive(Clone, Copy)]
 pub enum Checked {
     Refused(Answer),
     Passed { settings: Settings, count: usize },

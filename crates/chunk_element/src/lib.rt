@@ -16,7 +16,7 @@ use routes::Route;
 
 // What a call converts by: the formats of the two kinds and their route, the two rules, the bytes of a source and of a destination element, and the
 // map's entries.
-#[derive(Drop)]
+#[derive(Clone, Copy)]
 pub struct Settings {
     pub source: Format,
     pub target: Format,

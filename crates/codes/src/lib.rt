@@ -7,7 +7,7 @@ ghost use Rattle.codes.specs.Codes.{rounding_of, range_of, wrap_barred};
 use grid::RoundingMode;
 
 // What to do with a pick past the target's finite range, in the order of the codes 0 to 2.
-#[derive(Drop)]
+#[derive(Clone, Copy)]
 pub enum OutOfRangeMode {
     None,
     Clamp,

@@ -7,7 +7,7 @@ ghost use Rattle.counts.specs.Counts.{by_pick, no_counts};
 use grid::Ternary;
 
 // How a converted element fared: by the map, at its pick, rounded to it, or with a pick past the range, clamped or wrapped.
-#[derive(Drop)]
+#[derive(Clone, Copy)]
 pub enum Fared {
     Mapped,
     Exact,
@@ -17,7 +17,7 @@ pub enum Fared {
 }
 
 // How many elements fared in each way.
-#[derive(Drop)]
+#[derive(Clone, Copy)]
 pub struct Counts {
     pub mapped: usize,
     pub exact: usize,

@@ -16,7 +16,7 @@ use integers::Integer;
 use kinds::{FloatFormat, Format};
 
 // An element of any kind: an integer by sign and magnitude, or a float by sign and class.
-#[derive(Drop)]
+#[derive(Clone, Copy)]
 pub enum Element {
     Integer(Integer),
     Float(Float),

@@ -6,7 +6,7 @@ ghost use Rattle.float_fields.specs.Parts.{parts_of};
 ghost use Rattle.float_fields.specs.Widened.{widened_field, widened_of};
 
 // Sign, exponent field and fraction of a float's bits.
-#[derive(Drop)]
+#[derive(Clone, Copy)]
 pub struct Parts {
     pub negative: bool,
     pub exponent: u64,
@@ -15,7 +15,7 @@ pub struct Parts {
 
 // The fields of a float narrower than f64, as those of an f32: the exponent field counts from f32's start, and the fraction stands at the top. At the
 // exponent field 0 the fraction counts units of 2^spacing.
-#[derive(Drop)]
+#[derive(Clone, Copy)]
 pub struct Widened {
     pub negative: bool,
     pub exponent: u64,

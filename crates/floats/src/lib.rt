@@ -11,7 +11,7 @@ use float_fields::Widened;
 use scaled::Scaled;
 
 // What a float is but for its sign. A NaN has its fraction as an f64 has it.
-#[derive(Drop)]
+#[derive(Clone, Copy)]
 pub enum Class {
     Finite(Scaled),
     Infinite,
@@ -19,7 +19,7 @@ pub enum Class {
 }
 
 // A float element: its sign and its class.
-#[derive(Drop)]
+#[derive(Clone, Copy)]
 pub struct Float {
     pub negative: bool,
     pub class: Class,

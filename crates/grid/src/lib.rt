@@ -6,7 +6,7 @@ ghost use Rattle.grid.specs.Round.{signed};
 ghost use Rattle.grid.specs.Ternary.{ternary_of};
 
 // The five rounding rules, in the order of their codes 0 to 4.
-#[derive(Drop)]
+#[derive(Clone, Copy)]
 pub enum RoundingMode {
     NearestEven,
     TowardsZero,
@@ -16,7 +16,7 @@ pub enum RoundingMode {
 }
 
 // Where a pick lies beside its element, as numbers.
-#[derive(Drop)]
+#[derive(Clone, Copy)]
 pub enum Ternary {
     Exact,
     Below,
@@ -24,7 +24,7 @@ pub enum Ternary {
 }
 
 // What a rounding gives: the bits of the pick, and where it lies.
-#[derive(Drop)]
+#[derive(Clone, Copy)]
 pub struct Rounded {
     pub bits: u64,
     pub ternary: Ternary,

@@ -33,7 +33,7 @@ fn rounds_up(mode: RoundingMode, negative: bool, q: u64, rest: u64, unit: u64) -
 }
 
 // A magnitude rounded to some precision, as the f64 that is the pick, and where the pick lies.
-#[derive(Drop)]
+#[derive(Clone, Copy)]
 pub struct RoundedInteger {
     pub magnitude: f64,
     pub ternary: Ternary,

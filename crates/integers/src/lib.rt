@@ -6,7 +6,7 @@ ghost use Rattle.patterns.specs.Kind.{integer};
 ghost use Rattle.integers.specs.Magnitude.{IntegerPattern, magnitude_of};
 
 // A whole number by its magnitude, and whether it lies below zero.
-#[derive(Drop)]
+#[derive(Clone, Copy)]
 pub struct Integer {
     pub negative: bool,
     pub magnitude: u64,

@@ -15,7 +15,7 @@ use grid::{Rounded, RoundingMode, Ternary};
 use scaled::Scaled;
 
 // A finite magnitude that is a whole number, and where it lies beside the one that was rounded.
-#[derive(Drop)]
+#[derive(Clone, Copy)]
 struct WholeMagnitude {
     magnitude: Scaled,
     ternary: Ternary,

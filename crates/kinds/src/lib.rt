@@ -6,7 +6,7 @@ ghost use Rattle.kinds.specs.Table.{kind_of};
 ghost use Rattle.kinds.specs.Row.{row_of};
 
 // An integer kind: its bits, whether it is two's complement, and its ends.
-#[derive(Drop)]
+#[derive(Clone, Copy)]
 pub struct IntegerFormat {
     pub bits: u32,
     pub signed: bool,
@@ -15,7 +15,7 @@ pub struct IntegerFormat {
 }
 
 // A float kind: its significant bits, the bits of its exponent field, its smallest spacing 2^spacing counted from 2^-1074, and -MAX and MAX as f64 patterns.
-#[derive(Drop)]
+#[derive(Clone, Copy)]
 pub struct FloatFormat {
     pub precision: u32,
     pub exponent_bits: u32,
@@ -25,14 +25,14 @@ pub struct FloatFormat {
 }
 
 // What a kind is.
-#[derive(Drop)]
+#[derive(Clone, Copy)]
 pub enum Format {
     Integer(IntegerFormat),
     Float(FloatFormat),
 }
 
 // The bytes of a kind's elements, and what the kind is.
-#[derive(Drop)]
+#[derive(Clone, Copy)]
 pub struct KindRow {
     pub bytes: usize,
     pub format: Format,

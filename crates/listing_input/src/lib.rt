@@ -6,7 +6,7 @@ ghost use Rattle.listing_input.specs.Input.{refusal_of};
 ghost use Rattle.listing_input.specs.Layouts.{HeadIn, layout_of};
 
 // The places of an input where the targets and the elements start.
-#[derive(Drop)]
+#[derive(Clone, Copy)]
 pub struct Layout {
     pub targets: usize,
     pub elements: usize,

@@ -7,7 +7,7 @@ ghost use Rattle.routes.specs.Route.{integer_route, float_route, route_of};
 use kinds::{FloatFormat, Format, IntegerFormat};
 
 // Which of the four conversions two kinds take, with the format of each, or that they are the same kind; settled once for a call.
-#[derive(Drop)]
+#[derive(Clone, Copy)]
 pub enum Route {
     Same(Format),
     IntToInt {

@@ -5,7 +5,7 @@ ghost use Rattle.std.specs.Prelude.{◌≡◌, ◌*◌, ◌^◌, ◌<◌, ◌≤
 ghost use Rattle.scaled.specs.Scaled.{scaled_of, Canonical, finite_bits};
 
 // The magnitude significand × 2^exponent, counted from 2^-1074: 53 significant bits, or fewer at the exponent 0.
-#[derive(Drop)]
+#[derive(Clone, Copy)]
 pub struct Scaled {
     pub significand: u64,
     pub exponent: u64,

@@ -11,7 +11,7 @@ use answers::Lookup;
 
 // A map entry of f64 to u8.
 #[repr(C)]
-#[derive(Drop)]
+#[derive(Clone, Copy)]
 pub struct EntryF64U8 {
     pub key: f64,
     pub target: u8,
@@ -19,7 +19,7 @@ pub struct EntryF64U8 {
 
 // A map entry of f64 to i32.
 #[repr(C)]
-#[derive(Drop)]
+#[derive(Clone, Copy)]
 pub struct EntryF64I32 {
     pub key: f64,
     pub target: i32,
@@ -27,7 +27,7 @@ pub struct EntryF64I32 {
 
 // A map entry of f32 to u8.
 #[repr(C)]
-#[derive(Drop)]
+#[derive(Clone, Copy)]
 pub struct EntryF32U8 {
     pub key: f32,
     pub target: u8,
@@ -35,7 +35,7 @@ pub struct EntryF32U8 {
 
 // A map entry of f64 to f32: a record of two floats.
 #[repr(C)]
-#[derive(Drop)]
+#[derive(Clone, Copy)]
 pub struct Entry {
     pub key: f64,
     pub target: f32,
@@ -43,7 +43,7 @@ pub struct Entry {
 
 // A map entry of i64 to f32.
 #[repr(C)]
-#[derive(Drop)]
+#[derive(Clone, Copy)]
 pub struct EntryI64F32 {
     pub key: i64,
     pub target: f32,

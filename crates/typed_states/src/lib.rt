@@ -13,7 +13,7 @@ use tallies::Tally;
 
 // What the loop of a typed call carries: whether an element is to be converted, its position and its pattern, the answer once the loop ends,
 // and what the call's codes say.
-#[derive(Drop)]
+#[derive(Clone, Copy)]
 pub struct State {
     pub more: bool,
     pub at: usize,

@@ -9,7 +9,7 @@ use grid::{RoundingMode, Ternary};
 use scaled::Scaled;
 
 // A whole number's magnitude modulo 2^64, whether the magnitude exceeds 64 bits, and where the number lies beside the one that was rounded.
-#[derive(Drop)]
+#[derive(Clone, Copy)]
 pub struct Whole {
     pub magnitude: u64,
     pub exceeds: bool,
