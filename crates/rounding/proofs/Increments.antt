@@ -1,7 +1,7 @@
 -- A step is a quotient: what is added first depends on the rule and, for nearest-even, on the last kept bit.
 use mathlib.Core.Path.{◌≡◌, subst, sym, ap, ap₂, ◌∙◌}
 use mathlib.Core.Bool.{Bool, true, false}
-use Prim.Native.Nat.{ℕ, suc, ◌+◌, ◌-◌, ◌*◌, ◌/◌, ◌%◌, ◌^◌, ◌≤◌, ◌<◌}
+use Prim.Native.Nat.{ℕ, zero, suc, ◌+◌, ◌-◌, ◌*◌, ◌/◌, ◌%◌, ◌^◌, ◌≤◌, ◌<◌}
 use native.Mathlib.Nat.{div-add-mod', mod-lt, div-eq_of_lt-le, le_refl}
 use native.Mathlib.Omega.{arith}
 use lib.Bits.{bit_and, and_mask}
@@ -51,6 +51,7 @@ incremented NearestAway q s m v o e l =
 
 -- for a power of two past the first
 pub incremented_pow : (r : RoundingMode) (m j : ℕ) → 0 < j → (m + increment_of r (m / 2 ^ j) (2 ^ j - 1)) / 2 ^ j ≡ step r (m / 2 ^ j) (m % 2 ^ j) (2 ^ j)
+incremented_pow r m zero h = elim h [ ]
 incremented_pow r m (suc i) h =
     subst (λ (u : ℕ). (m + increment_of r (m / u) (u - 1)) / u ≡ step r (m / u) (m % u) u) (dbl i)
     (incremented r (m / (2 ^ i + 2 ^ i)) (m % (2 ^ i + 2 ^ i)) m (2 ^ i) (pow_pos i) (div-add-mod' m (2 ^ i + 2 ^ i)) (mod-lt m (omega (arith, pow_pos i))))
@@ -68,6 +69,7 @@ increment_le NearestAway q h o = omega arith
 
 -- so the sum stays below the next power of two
 pub increment_fits : (r : RoundingMode) (m j : ℕ) → 0 < j → m + 2 ^ j ≤ 2 ^ 64 → m + increment_of r (m / 2 ^ j) (2 ^ j - 1) < 2 ^ 64
+increment_fits r m zero h room = elim h [ ]
 increment_fits r m (suc i) h room = omega (arith, increment_le r (m / 2 ^ suc i) (2 ^ suc i - 1) (omega (arith, pow_pos i)), pow_pos i)
 
 -- a rule that does not look at the sign
