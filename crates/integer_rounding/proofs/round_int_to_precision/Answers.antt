@@ -46,7 +46,7 @@ returns c =
     let up = c.rounds_up-up in
     let drops : a.precision + (c.significant_bits-significant.result - a.precision) ≡ size a.magnitude = dropped a.precision c.significant_bits-significant.result a.magnitude c.significant_bits-significant.ensures c.if-significant-precision.false in (
       record {
-        value = many_bits a.precision a.magnitude c.requires _ drops (omega arith) r up.result _ _ up.ensures c.nearest_u64_to_f64-2.ensures c.nearest_u64_to_f64-3.ensures.value;
+        value = many_bits a.precision a.magnitude c.requires _ drops (omega arith) r up.result _ _ up.ensures c.nearest_u64_to_f64-2.ensures c.nearest_u64_to_f64-3.ensures;
       },
       c.ternary_of.ensures a.magnitude (pick_mag (float a.precision 0) r a.magnitude)
           (rest_exact a.precision a.magnitude c.requires _ drops (omega arith) r)
