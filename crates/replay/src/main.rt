@@ -2,9 +2,10 @@
 // differs. tools/compare --list writes the file; tools/driver/src/list.rs says how a case stands in it.
 #![tactic(auto)]
 
-ghost use Rattle.std.specs.Prelude.{◌≡◌, ◌+◌, ◌<◌, ◌≤◌, length};
+ghost use Rattle.std.specs.Prelude.{◌≡◌, ◌+◌, ◌<◌, ◌≤◌, length, IfOk};
 
-use libc::STDOUT_FILENO;
+use std::fs::File;
+use std::io::{self, Read};
 
 // The number of w bytes from a place on, lowest byte first; a byte past the end is left out.
 fn number_at(s: &[u8], at: usize, w: usize) -> u64 {
@@ -165,9 +166,24 @@ fn space() -> [u8; 1024]
     [0; 1024]
 }
 
+// Reads until the buffer is full or the input ends, and returns how many bytes it read.
+fn read_full<R: Read>(source: &mut R, buffer: &mut [u8]) -> io::Result<usize>
+    ensures { IfOk result (λ n. n ≤ length buffer.new) }
+{
+    let mut filled = 0;
+    while filled < buffer.len() {
+        let n = source.read(&mut buffer[filled..])?;
+        if n == 0 {
+            return Ok(filled);
+        }
+        filled += n;
+    }
+    Ok(filled)
+}
+
 // Reads the body of a case, all of it, and replays the case; false where it is cut short.
-fn replay_body(
-    fd: i32,
+fn replay_body<R: Read>(
+    source: &mut R,
     head: &[u8; 46],
     body: &mut [u8],
     dst: &mut [u8],
@@ -175,84 +191,85 @@ fn replay_body(
     c: usize,
     d: usize,
     counts: &mut [u64; 12],
-) -> bool
+) -> io::Result<bool>
     requires { a + c + d ≤ length body.old }
 {
-    if io::read_full(fd, body) != body.len() {
-        return false;
+    if read_full(source, body)? != body.len() {
+        return Ok(false);
     }
     let good = holds(head, body, dst, a, c, d);
     count(counts, head[0], good);
-    true
+    Ok(true)
 }
 
 // Reads a case and replays it; false at the end of the list, or where a case is cut short or too long.
-fn replay_case(fd: i32, counts: &mut [u64; 12]) -> bool {
+fn replay_case<R: Read>(source: &mut R, counts: &mut [u64; 12]) -> io::Result<bool> {
     let mut head = [0u8; 46];
-    if io::read_full(fd, &mut head) != 46 {
-        return false;
+    if read_full(source, &mut head)? != 46 {
+        return Ok(false);
     }
     let a = number_at(&head, 5, 2) as usize;
     let b = number_at(&head, 7, 2) as usize;
     let c = number_at(&head, 9, 2) as usize;
     let d = number_at(&head, 11, 2) as usize;
     if 256 < a {
-        return false;
+        return Ok(false);
     }
     if 256 < b {
-        return false;
+        return Ok(false);
     }
     if 256 < c {
-        return false;
+        return Ok(false);
     }
     if 256 < d {
-        return false;
+        return Ok(false);
     }
     let n = a + c + d + b;
     let mut body = space();
     let mut dst = marks();
-    replay_body(fd, &head, &mut body[..n], &mut dst[..b], a, c, d, counts)
+    replay_body(
+        source,
+        &head,
+        &mut body[..n],
+        &mut dst[..b],
+        a,
+        c,
+        d,
+        counts,
+    )
 }
 
 // Replays the list to its end. Nothing says that a file ends, so the turns are counted down.
-fn replay(fd: i32, counts: &mut [u64; 12]) {
+fn replay<R: Read>(source: &mut R, counts: &mut [u64; 12]) -> io::Result<()> {
     let mut turns = u64::MAX;
-    while turns > 0 && replay_case(fd, counts) {
+    while turns > 0 && replay_case(source, counts)? {
         turns -= 1;
     }
+    Ok(())
 }
 
 // Writes a section's line.
-fn say(name: &[u8], calls: u64, differences: u64) {
-    io::write_all(STDOUT_FILENO, name);
-    io::write_all(STDOUT_FILENO, b": ");
-    io::print_decimal(STDOUT_FILENO, calls);
-    io::write_all(STDOUT_FILENO, b" calls, ");
-    io::print_decimal(STDOUT_FILENO, differences);
-    io::write_all(STDOUT_FILENO, b" differences\n");
+fn say(rt: &impl Print, name: &str, calls: u64, differences: u64) -> io::Result<()> {
+    println!(rt; "{name}: {calls} calls, {differences} differences")
 }
 
 // Replays the list and writes a line for each of its five sections.
-fn main() {
-    let fd = os::open_read(b"list");
-    if fd < 0 {
-        os::fail(b"list");
-        return;
-    }
+fn main(rt: HostRuntime) -> io::Result<()> {
     let mut counts = [0u64; 12];
-    replay(fd, &mut counts);
-    libc::close(fd);
+    replay(&mut File::open(&rt, "list")?, &mut counts)?;
     say(
-        b"accepted elements, every setting without wrap to a float",
+        &rt,
+        "accepted elements, every setting without wrap to a float",
         counts[1],
         counts[7],
-    );
+    )?;
     say(
-        b"refused elements, first, between and last",
+        &rt,
+        "refused elements, first, between and last",
         counts[2],
         counts[8],
-    );
-    say(b"maps", counts[3], counts[9]);
-    say(b"broken lengths and bad codes", counts[4], counts[10]);
-    say(b"wrap with a float target", counts[5], counts[11]);
+    )?;
+    say(&rt, "maps", counts[3], counts[9])?;
+    say(&rt, "broken lengths and bad codes", counts[4], counts[10])?;
+    say(&rt, "wrap with a float target", counts[5], counts[11])
 }

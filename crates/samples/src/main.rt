@@ -6,49 +6,65 @@ ghost use Rattle.std.specs.Prelude.{◌≡◌, ◌≤◌, ◌+◌, length};
 
 use answers::Reply;
 use counts::Counts;
-use libc::STDOUT_FILENO;
+use std::io;
+
+// A number in hexadecimal, of at least so many digits.
+fn print_hex(rt: &impl Print, x: u64, width: usize) -> io::Result<()> {
+    print!(rt; "{x:0width$x}")
+}
 
 fn wide(x: u8) -> u64 {
     x as u64
 }
 
 // The bytes of a destination, in their order.
-fn print_bytes(d: &[u8]) {
+fn print_bytes(rt: &impl Print, d: &[u8]) -> io::Result<()> {
     for i in 0..d.len() {
-        io::print_hex(STDOUT_FILENO, wide(d[i]), 2);
+        print_hex(rt, wide(d[i]), 2)?;
     }
+    Ok(())
 }
 
-fn print_count(n: usize) {
-    io::write_all(STDOUT_FILENO, b" ");
-    io::print_decimal(STDOUT_FILENO, n as u64);
+fn print_count(rt: &impl Print, n: usize) -> io::Result<()> {
+    rt.write_all(b" ")?;
+    rt.print(n as u64)
 }
 
-fn print_counts(c: Counts) {
-    print_count(c.mapped);
-    print_count(c.exact);
-    print_count(c.rounded);
-    print_count(c.clamped);
-    print_count(c.wrapped);
-    io::write_all(STDOUT_FILENO, b"\n");
+fn print_counts(rt: &impl Print, c: Counts) -> io::Result<()> {
+    print_count(rt, c.mapped)?;
+    print_count(rt, c.exact)?;
+    print_count(rt, c.rounded)?;
+    print_count(rt, c.clamped)?;
+    print_count(rt, c.wrapped)?;
+    rt.write_all(b"\n")
 }
 
-fn print_reply(r: Reply, d: &[u8]) {
+fn print_reply(rt: &impl Print, r: Reply, d: &[u8]) -> io::Result<()> {
     let a = r.answer;
     let c = r.counts;
     let number = answer_numbers::number(a);
-    io::print_decimal(STDOUT_FILENO, wide(number));
+    rt.print(wide(number))?;
     if answer_numbers::names_position(number as usize) {
-        io::write_all(STDOUT_FILENO, b" at ");
-        io::print_decimal(STDOUT_FILENO, answer_numbers::position(a) as u64);
+        rt.write_all(b" at ")?;
+        rt.print(answer_numbers::position(a) as u64)?;
     }
-    io::write_all(STDOUT_FILENO, b": ");
-    print_bytes(d);
-    print_counts(c);
+    rt.write_all(b": ")?;
+    print_bytes(rt, d)?;
+    print_counts(rt, c)
 }
 
 // The first sw bytes of s to the first dw bytes of d, with no map.
-fn call(s: &[u8], d: &mut [u8], sw: usize, dw: usize, from: u8, to: u8, rounding: u8, range: u8)
+fn call(
+    rt: &impl Print,
+    s: &[u8],
+    d: &mut [u8],
+    sw: usize,
+    dw: usize,
+    from: u8,
+    to: u8,
+    rounding: u8,
+    range: u8,
+) -> io::Result<()>
     requires { (sw ≤ length s.now) × (dw ≤ length d.old) }
 {
     let none = &s[0..0];
@@ -62,110 +78,119 @@ fn call(s: &[u8], d: &mut [u8], sw: usize, dw: usize, from: u8, to: u8, rounding
         rounding,
         range,
     );
-    print_reply(r, &d[0..dw]);
+    print_reply(rt, r, &d[0..dw])
 }
 
 // One element of sw bytes, whose pattern is x, to one of dw bytes.
-fn sample(x: u64, sw: usize, dw: usize, from: u8, to: u8, rounding: u8, range: u8)
+fn sample(
+    rt: &impl Print,
+    x: u64,
+    sw: usize,
+    dw: usize,
+    from: u8,
+    to: u8,
+    rounding: u8,
+    range: u8,
+) -> io::Result<()>
     requires { (sw ≤ 8) × (dw ≤ 8) }
 {
     let mut s = [0u8; 8];
     put(&mut s, 0, x);
     let mut d = [0xaau8; 8];
-    call(&s, &mut d, sw, dw, from, to, rounding, range);
+    call(rt, &s, &mut d, sw, dw, from, to, rounding, range)
 }
 
-fn to_integers() {
+fn to_integers(rt: &impl Print) -> io::Result<()> {
     // 1. 2.5 f64 to u8: nearest-even 2, nearest-away 3
-    sample(0x4004000000000000, 8, 1, 9, 4, 0, 0);
-    sample(0x4004000000000000, 8, 1, 9, 4, 4, 0);
+    sample(rt, 0x4004000000000000, 8, 1, 9, 4, 0, 0)?;
+    sample(rt, 0x4004000000000000, 8, 1, 9, 4, 4, 0)?;
     // 2. -0.5 to u8: nearest-even 0; towards-negative: 6, clamp 0, wrap 255
-    sample(0xbfe0000000000000, 8, 1, 9, 4, 0, 0);
-    sample(0xbfe0000000000000, 8, 1, 9, 4, 3, 0);
-    sample(0xbfe0000000000000, 8, 1, 9, 4, 3, 1);
-    sample(0xbfe0000000000000, 8, 1, 9, 4, 3, 2);
+    sample(rt, 0xbfe0000000000000, 8, 1, 9, 4, 0, 0)?;
+    sample(rt, 0xbfe0000000000000, 8, 1, 9, 4, 3, 0)?;
+    sample(rt, 0xbfe0000000000000, 8, 1, 9, 4, 3, 1)?;
+    sample(rt, 0xbfe0000000000000, 8, 1, 9, 4, 3, 2)?;
     // 3. 0.49999999999999994, nearest-away, to i32: 0
-    sample(0x3fdfffffffffffff, 8, 4, 9, 2, 4, 0);
+    sample(rt, 0x3fdfffffffffffff, 8, 4, 9, 2, 4, 0)?;
     // 4. 2^63 f64 to i64: 6; clamp 2^63 - 1; wrap -2^63
-    sample(0x43e0000000000000, 8, 8, 9, 3, 0, 0);
-    sample(0x43e0000000000000, 8, 8, 9, 3, 0, 1);
-    sample(0x43e0000000000000, 8, 8, 9, 3, 0, 2);
+    sample(rt, 0x43e0000000000000, 8, 8, 9, 3, 0, 0)?;
+    sample(rt, 0x43e0000000000000, 8, 8, 9, 3, 0, 1)?;
+    sample(rt, 0x43e0000000000000, 8, 8, 9, 3, 0, 2)?;
     // 5. NaN to i32 under clamp: 5
-    sample(0x7ff8000000000000, 8, 4, 9, 2, 0, 1);
+    sample(rt, 0x7ff8000000000000, 8, 4, 9, 2, 0, 1)?;
     // 6. 300 f64 to i8, wrap: 44
-    sample(0x4072c00000000000, 8, 1, 9, 0, 0, 2);
+    sample(rt, 0x4072c00000000000, 8, 1, 9, 0, 0, 2)?;
     // 7. 255 u8 to i8: clamp 127, wrap -1
-    sample(0xff, 1, 1, 4, 0, 0, 1);
-    sample(0xff, 1, 1, 4, 0, 0, 2);
+    sample(rt, 0xff, 1, 1, 4, 0, 0, 1)?;
+    sample(rt, 0xff, 1, 1, 4, 0, 0, 2)
 }
 
-fn to_floats() {
+fn to_floats(rt: &impl Print) -> io::Result<()> {
     // 8. 16777217 i64 to f32: nearest-even 16777216, nearest-away 16777218; its negative, towards-positive, -16777216
-    sample(0x0000000001000001, 8, 4, 3, 8, 0, 0);
-    sample(0x0000000001000001, 8, 4, 3, 8, 4, 0);
-    sample(0xfffffffffeffffff, 8, 4, 3, 8, 2, 0);
+    sample(rt, 0x0000000001000001, 8, 4, 3, 8, 0, 0)?;
+    sample(rt, 0x0000000001000001, 8, 4, 3, 8, 4, 0)?;
+    sample(rt, 0xfffffffffeffffff, 8, 4, 3, 8, 2, 0)?;
     // 9. 2^64 - 1 u64 to f64: nearest-even 2^64; towards-zero 18446744073709549568
-    sample(0xffffffffffffffff, 8, 8, 7, 9, 0, 0);
-    sample(0xffffffffffffffff, 8, 8, 7, 9, 1, 0);
+    sample(rt, 0xffffffffffffffff, 8, 8, 7, 9, 0, 0)?;
+    sample(rt, 0xffffffffffffffff, 8, 8, 7, 9, 1, 0)?;
     // 10. 2^128 - 2^103 f64 to f32: towards-zero bits 7f7fffff; nearest-even 7
-    sample(0x47effffff0000000, 8, 4, 9, 8, 1, 0);
-    sample(0x47effffff0000000, 8, 4, 9, 8, 0, 0);
+    sample(rt, 0x47effffff0000000, 8, 4, 9, 8, 1, 0)?;
+    sample(rt, 0x47effffff0000000, 8, 4, 9, 8, 0, 0)?;
     // 11. 2^128, towards-zero: 7; clamp +infinity
-    sample(0x47f0000000000000, 8, 4, 9, 8, 1, 0);
-    sample(0x47f0000000000000, 8, 4, 9, 8, 1, 1);
+    sample(rt, 0x47f0000000000000, 8, 4, 9, 8, 1, 0)?;
+    sample(rt, 0x47f0000000000000, 8, 4, 9, 8, 1, 1)?;
     // 12. 2^-150 to f32: nearest-even +0, nearest-away 2^-149
-    sample(0x3690000000000000, 8, 4, 9, 8, 0, 0);
-    sample(0x3690000000000000, 8, 4, 9, 8, 4, 0);
+    sample(rt, 0x3690000000000000, 8, 4, 9, 8, 0, 0)?;
+    sample(rt, 0x3690000000000000, 8, 4, 9, 8, 4, 0)?;
     // 13. -2^-200 to f32, towards-positive: -0
-    sample(0xb370000000000000, 8, 4, 9, 8, 2, 0);
+    sample(rt, 0xb370000000000000, 8, 4, 9, 8, 2, 0)?;
     // wrap with a float target: 8, for 1 as well, and before a broken destination is looked at
-    sample(0x3ff0000000000000, 8, 4, 9, 8, 0, 2);
-    sample(0x3ff0000000000000, 8, 1, 9, 8, 0, 2);
-    sample(0x00000000000000ff, 1, 8, 4, 9, 0, 2);
+    sample(rt, 0x3ff0000000000000, 8, 4, 9, 8, 0, 2)?;
+    sample(rt, 0x3ff0000000000000, 8, 1, 9, 8, 0, 2)?;
+    sample(rt, 0x00000000000000ff, 1, 8, 4, 9, 0, 2)
 }
 
-fn to_halves() {
+fn to_halves(rt: &impl Print) -> io::Result<()> {
     // 65519 u16 to f16: 65504; 65520: 7, clamp +infinity
-    sample(0xffef, 2, 2, 5, 10, 0, 0);
-    sample(0xfff0, 2, 2, 5, 10, 0, 0);
-    sample(0xfff0, 2, 2, 5, 10, 0, 1);
+    sample(rt, 0xffef, 2, 2, 5, 10, 0, 0)?;
+    sample(rt, 0xfff0, 2, 2, 5, 10, 0, 0)?;
+    sample(rt, 0xfff0, 2, 2, 5, 10, 0, 1)?;
     // towards-zero: 65535 u16 is MAX, and 65536 u32 is past it
-    sample(0xffff, 2, 2, 5, 10, 1, 0);
-    sample(0x10000, 4, 2, 6, 10, 1, 0);
+    sample(rt, 0xffff, 2, 2, 5, 10, 1, 0)?;
+    sample(rt, 0x10000, 4, 2, 6, 10, 1, 0)?;
     // f64 1 + 2^-11 + 2^-40, and 65520 - 2^-20: one rounding
-    sample(0x3ff0020000001000, 8, 2, 9, 10, 0, 0);
-    sample(0x40effdfffffe0000, 8, 2, 9, 10, 0, 0);
+    sample(rt, 0x3ff0020000001000, 8, 2, 9, 10, 0, 0)?;
+    sample(rt, 0x40effdfffffe0000, 8, 2, 9, 10, 0, 0)?;
     // 2^-25: nearest-even +0, nearest-away 2^-24
-    sample(0x3e60000000000000, 8, 2, 9, 10, 0, 0);
-    sample(0x3e60000000000000, 8, 2, 9, 10, 4, 0);
+    sample(rt, 0x3e60000000000000, 8, 2, 9, 10, 0, 0)?;
+    sample(rt, 0x3e60000000000000, 8, 2, 9, 10, 4, 0)?;
     // halfway below and above the largest subnormal
-    sample(0x3f0ff40000000000, 8, 2, 9, 10, 0, 0);
-    sample(0x3f0ffc0000000000, 8, 2, 9, 10, 0, 0);
+    sample(rt, 0x3f0ff40000000000, 8, 2, 9, 10, 0, 0)?;
+    sample(rt, 0x3f0ffc0000000000, 8, 2, 9, 10, 0, 0)?;
     // wrap to f16: 8
-    sample(0x3ff0000000000000, 8, 2, 9, 10, 0, 2);
+    sample(rt, 0x3ff0000000000000, 8, 2, 9, 10, 0, 2)
 }
 
-fn halves() {
+fn halves(rt: &impl Print) -> io::Result<()> {
     // NaNs: from f64 and f32, to f64 and f32, to f16, and refused
-    sample(0xfff0040000000001, 8, 2, 9, 10, 0, 0);
-    sample(0xff802001, 4, 2, 8, 10, 0, 0);
-    sample(0xfc01, 2, 8, 10, 9, 0, 0);
-    sample(0xfc01, 2, 4, 10, 8, 0, 0);
-    sample(0xfc01, 2, 2, 10, 10, 0, 0);
-    sample(0xfc01, 2, 1, 10, 4, 0, 0);
+    sample(rt, 0xfff0040000000001, 8, 2, 9, 10, 0, 0)?;
+    sample(rt, 0xff802001, 4, 2, 8, 10, 0, 0)?;
+    sample(rt, 0xfc01, 2, 8, 10, 9, 0, 0)?;
+    sample(rt, 0xfc01, 2, 4, 10, 8, 0, 0)?;
+    sample(rt, 0xfc01, 2, 2, 10, 10, 0, 0)?;
+    sample(rt, 0xfc01, 2, 1, 10, 4, 0, 0)?;
     // the largest subnormal to f64, and MAX to u16
-    sample(0x03ff, 2, 8, 10, 9, 0, 0);
-    sample(0x7bff, 2, 2, 10, 5, 0, 0);
+    sample(rt, 0x03ff, 2, 8, 10, 9, 0, 0)?;
+    sample(rt, 0x7bff, 2, 2, 10, 5, 0, 0)
 }
 
 // Map +0 to 7, -0 to 8: f16 -0 gives 7.
-fn half_keys() {
+fn half_keys(rt: &impl Print) -> io::Result<()> {
     let keys = [0, 0, 0, 128];
     let targets = [7, 8];
     let s = [0, 128];
     let mut d = [0xaau8; 1];
     let r = chunk::convert(&s, &mut d, &keys, &targets, 10, 4, 0, 0);
-    print_reply(r, &d);
+    print_reply(rt, r, &d)
 }
 
 // The eight bytes of x, at a place of d.
@@ -177,7 +202,7 @@ fn put(d: &mut [u8], at: usize, x: u64)
 }
 
 // 14. Map NaN to 9, 0 to 7, 0 to 8: -0 gives 7.
-fn mapped() {
+fn mapped(rt: &impl Print) -> io::Result<()> {
     let mut keys = [0u8; 24];
     put(&mut keys, 0, 0x7ff8000000000000);
     let targets = [9, 7, 8];
@@ -185,20 +210,20 @@ fn mapped() {
     put(&mut s, 0, 0x8000000000000000);
     let mut d = [0xaau8; 1];
     let r = chunk::convert(&s, &mut d, &keys, &targets, 9, 4, 0, 0);
-    print_reply(r, &d);
+    print_reply(rt, r, &d)
 }
 
 // 2.5 and 300 f64 to u8: the first is converted, and the second refused, so one is counted.
-fn two() {
+fn two(rt: &impl Print) -> io::Result<()> {
     let mut s = [0u8; 16];
     put(&mut s, 0, 0x4004000000000000);
     put(&mut s, 8, 0x4072c00000000000);
     let mut d = [0xaau8; 2];
-    call(&s, &mut d, 16, 2, 9, 4, 0, 0);
+    call(rt, &s, &mut d, 16, 2, 9, 4, 0, 0)
 }
 
 // -0, 1, 2.5 and 300 f64 to u8 with 0 mapped to 7: one of each class, and 300 clamped or wrapped by the range code.
-fn classes(range: u8) {
+fn classes(rt: &impl Print, range: u8) -> io::Result<()> {
     let keys = [0u8; 8];
     let targets = [7];
     let mut s = [0u8; 32];
@@ -208,17 +233,17 @@ fn classes(range: u8) {
     put(&mut s, 24, 0x4072c00000000000);
     let mut d = [0xaau8; 4];
     let r = chunk::convert(&s, &mut d, &keys, &targets, 9, 4, 0, range);
-    print_reply(r, &d);
+    print_reply(rt, r, &d)
 }
 
-fn main() {
-    to_integers();
-    to_floats();
-    to_halves();
-    halves();
-    mapped();
-    half_keys();
-    two();
-    classes(1);
-    classes(2);
+fn main(rt: HostRuntime) -> io::Result<()> {
+    to_integers(&rt)?;
+    to_floats(&rt)?;
+    to_halves(&rt)?;
+    halves(&rt)?;
+    mapped(&rt)?;
+    half_keys(&rt)?;
+    two(&rt)?;
+    classes(&rt, 1)?;
+    classes(&rt, 2)
 }

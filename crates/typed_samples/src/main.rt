@@ -4,8 +4,13 @@
 
 use answers::Reply;
 use counts::Counts;
-use libc::STDOUT_FILENO;
+use std::io;
 use typed_entries::{Entry, EntryF32U8, EntryF64I32, EntryF64U8, EntryI64F32};
+
+// A number in hexadecimal, of at least so many digits.
+fn print_hex(rt: &impl Print, x: u64, width: usize) -> io::Result<()> {
+    print!(rt; "{x:0width$x}")
+}
 
 fn wide(x: u8) -> u64 {
     x as u64
@@ -13,50 +18,50 @@ fn wide(x: u8) -> u64 {
 
 // ---- output
 
-fn print_count(n: usize) {
-    io::write_all(STDOUT_FILENO, b" ");
-    io::print_decimal(STDOUT_FILENO, n as u64);
+fn print_count(rt: &impl Print, n: usize) -> io::Result<()> {
+    rt.write_all(b" ")?;
+    rt.print(n as u64)
 }
 
 // Mapped, exact, rounded, clamped, wrapped.
-fn print_counts(c: Counts) {
-    io::write_all(STDOUT_FILENO, b",");
-    print_count(c.mapped);
-    print_count(c.exact);
-    print_count(c.rounded);
-    print_count(c.clamped);
-    print_count(c.wrapped);
+fn print_counts(rt: &impl Print, c: Counts) -> io::Result<()> {
+    rt.write_all(b",")?;
+    print_count(rt, c.mapped)?;
+    print_count(rt, c.exact)?;
+    print_count(rt, c.rounded)?;
+    print_count(rt, c.clamped)?;
+    print_count(rt, c.wrapped)
 }
 
-fn print_reply(rounding: u8, range: u8, r: Reply) {
+fn print_reply(rt: &impl Print, rounding: u8, range: u8, r: Reply) -> io::Result<()> {
     let a = r.answer;
     let c = r.counts;
-    io::write_all(STDOUT_FILENO, b" ");
-    io::print_decimal(STDOUT_FILENO, wide(rounding));
-    io::write_all(STDOUT_FILENO, b" ");
-    io::print_decimal(STDOUT_FILENO, wide(range));
-    io::write_all(STDOUT_FILENO, b" ");
-    io::print_decimal(STDOUT_FILENO, wide(answer_numbers::number(a)));
+    rt.write_all(b" ")?;
+    rt.print(wide(rounding))?;
+    rt.write_all(b" ")?;
+    rt.print(wide(range))?;
+    rt.write_all(b" ")?;
+    rt.print(wide(answer_numbers::number(a)))?;
     if answer_numbers::names_position(answer_numbers::number(a) as usize) {
-        io::write_all(STDOUT_FILENO, b" at ");
-        io::print_decimal(STDOUT_FILENO, answer_numbers::position(a) as u64);
+        rt.write_all(b" at ")?;
+        rt.print(answer_numbers::position(a) as u64)?;
     }
-    print_counts(c);
-    io::write_all(STDOUT_FILENO, b":");
+    print_counts(rt, c)?;
+    rt.write_all(b":")
 }
 
 // A pattern of so many hexadecimal digits.
-fn print_pattern(b: u64, digits: usize) {
-    io::write_all(STDOUT_FILENO, b" ");
-    io::print_hex(STDOUT_FILENO, b, digits);
+fn print_pattern(rt: &impl Print, b: u64, digits: usize) -> io::Result<()> {
+    rt.write_all(b" ")?;
+    print_hex(rt, b, digits)
 }
 
-fn print_four(x: u64, y: u64, z: u64, w: u64, digits: usize) {
-    print_pattern(x, digits);
-    print_pattern(y, digits);
-    print_pattern(z, digits);
-    print_pattern(w, digits);
-    io::write_all(STDOUT_FILENO, b"\n");
+fn print_four(rt: &impl Print, x: u64, y: u64, z: u64, w: u64, digits: usize) -> io::Result<()> {
+    print_pattern(rt, x, digits)?;
+    print_pattern(rt, y, digits)?;
+    print_pattern(rt, z, digits)?;
+    print_pattern(rt, w, digits)?;
+    rt.write_all(b"\n")
 }
 
 // ---- the five pairs: the map takes a NaN (-7 for an integer) and zero, the first of two entries for it
@@ -78,12 +83,19 @@ fn map_f64_u8() -> [EntryF64U8; 3] {
     ]
 }
 
-fn f64_u8(src: [f64; 4], rounding: u8, range: u8) {
-    io::write_all(STDOUT_FILENO, b"f64 u8");
+fn f64_u8(rt: &impl Print, src: [f64; 4], rounding: u8, range: u8) -> io::Result<()> {
+    rt.write_all(b"f64 u8")?;
     let mut dst = [0xaau8; 4];
     let r = typed::convert_f64_to_u8_with3(&src, &mut dst, map_f64_u8(), rounding, range);
-    print_reply(rounding, range, r);
-    print_four(wide(dst[0]), wide(dst[1]), wide(dst[2]), wide(dst[3]), 2);
+    print_reply(rt, rounding, range, r)?;
+    print_four(
+        rt,
+        wide(dst[0]),
+        wide(dst[1]),
+        wide(dst[2]),
+        wide(dst[3]),
+        2,
+    )
 }
 
 fn map_f64_i32() -> [EntryF64I32; 3] {
@@ -103,18 +115,19 @@ fn map_f64_i32() -> [EntryF64I32; 3] {
     ]
 }
 
-fn f64_i32(src: [f64; 4], rounding: u8, range: u8) {
-    io::write_all(STDOUT_FILENO, b"f64 i32");
+fn f64_i32(rt: &impl Print, src: [f64; 4], rounding: u8, range: u8) -> io::Result<()> {
+    rt.write_all(b"f64 i32")?;
     let mut dst = [-1i32; 4];
     let r = typed::convert_f64_to_i32_with3(&src, &mut dst, map_f64_i32(), rounding, range);
-    print_reply(rounding, range, r);
+    print_reply(rt, rounding, range, r)?;
     print_four(
+        rt,
         typed_values::bits_i32(dst[0]),
         typed_values::bits_i32(dst[1]),
         typed_values::bits_i32(dst[2]),
         typed_values::bits_i32(dst[3]),
         8,
-    );
+    )
 }
 
 fn map_f32_u8() -> [EntryF32U8; 3] {
@@ -134,12 +147,19 @@ fn map_f32_u8() -> [EntryF32U8; 3] {
     ]
 }
 
-fn f32_u8(src: [f32; 4], rounding: u8, range: u8) {
-    io::write_all(STDOUT_FILENO, b"f32 u8");
+fn f32_u8(rt: &impl Print, src: [f32; 4], rounding: u8, range: u8) -> io::Result<()> {
+    rt.write_all(b"f32 u8")?;
     let mut dst = [0xaau8; 4];
     let r = typed::convert_f32_to_u8_with3(&src, &mut dst, map_f32_u8(), rounding, range);
-    print_reply(rounding, range, r);
-    print_four(wide(dst[0]), wide(dst[1]), wide(dst[2]), wide(dst[3]), 2);
+    print_reply(rt, rounding, range, r)?;
+    print_four(
+        rt,
+        wide(dst[0]),
+        wide(dst[1]),
+        wide(dst[2]),
+        wide(dst[3]),
+        2,
+    )
 }
 
 fn map_f64_f32() -> [Entry; 3] {
@@ -159,18 +179,19 @@ fn map_f64_f32() -> [Entry; 3] {
     ]
 }
 
-fn f64_f32(src: [f64; 4], rounding: u8, range: u8) {
-    io::write_all(STDOUT_FILENO, b"f64 f32");
+fn f64_f32(rt: &impl Print, src: [f64; 4], rounding: u8, range: u8) -> io::Result<()> {
+    rt.write_all(b"f64 f32")?;
     let mut dst = [-1.5f32; 4];
     let r = typed::convert_f64_to_f32_with3(&src, &mut dst, map_f64_f32(), rounding, range);
-    print_reply(rounding, range, r);
+    print_reply(rt, rounding, range, r)?;
     print_four(
+        rt,
         typed_values::bits_f32(dst[0]),
         typed_values::bits_f32(dst[1]),
         typed_values::bits_f32(dst[2]),
         typed_values::bits_f32(dst[3]),
         8,
-    );
+    )
 }
 
 fn map_i64_f32() -> [EntryI64F32; 3] {
@@ -190,55 +211,66 @@ fn map_i64_f32() -> [EntryI64F32; 3] {
     ]
 }
 
-fn i64_f32(src: [i64; 4], rounding: u8, range: u8) {
-    io::write_all(STDOUT_FILENO, b"i64 f32");
+fn i64_f32(rt: &impl Print, src: [i64; 4], rounding: u8, range: u8) -> io::Result<()> {
+    rt.write_all(b"i64 f32")?;
     let mut dst = [-1.5f32; 4];
     let r = typed::convert_i64_to_f32_with3(&src, &mut dst, map_i64_f32(), rounding, range);
-    print_reply(rounding, range, r);
+    print_reply(rt, rounding, range, r)?;
     print_four(
+        rt,
         typed_values::bits_f32(dst[0]),
         typed_values::bits_f32(dst[1]),
         typed_values::bits_f32(dst[2]),
         typed_values::bits_f32(dst[3]),
         8,
-    );
+    )
 }
 
-fn from_f64() {
-    f64_u8([2.5, -0.0, 0.0 / 0.0, 254.5], 0, 0);
-    f64_u8([2.5, 300.0, 1.0, 1.0], 4, 0);
-    f64_u8([-0.5, 300.0, -300.25, 2.5], 3, 1);
-    f64_u8([-0.5, 300.0, -300.25, 2.5], 3, 2);
-    f64_u8([1.0, 2.0, 1.0 / 0.0, 4.0], 0, 1);
-    f64_u8([1.0, 2.0, 3.0, 4.0], 5, 0);
-    f64_i32([0.49999999999999994, -2147483648.5, 0.0 / 0.0, -0.0], 4, 1);
-    f64_i32([0.5, -0.5, 2147483647.5, 1.0], 2, 0);
-    f64_i32([4294967297.5, -4294967297.5, -2147483649.0, 1e300], 1, 2);
-    f64_i32([1.0, -1.0 / 0.0, 3.0, 4.0], 0, 2);
-    f64_i32([1.0, 2.0, 3.0, 4.0], 0, 3);
-    f64_f32([16777217.0, -16777217.0, 1e-46, 0.1], 0, 0);
-    f64_f32([16777217.0, -16777217.0, 1e-46, 0.1], 4, 0);
-    f64_f32([16777217.0, -16777217.0, 1e-46, 0.1], 2, 0);
-    f64_f32([0.0 / 0.0, -0.0, 1.0 / 0.0, -1e-300], 2, 0);
-    f64_f32([1.0, 1e39, 2.0, 3.0], 0, 0);
-    f64_f32([1.0, 1e39, -1e39, 3.0], 1, 1);
-    f64_f32([1.0, 2.0, -1e300, 3.0], 1, 0);
-    f64_f32([1.0, 2.0, -1e300, 3.0], 1, 2);
+fn from_f64(rt: &impl Print) -> io::Result<()> {
+    f64_u8(rt, [2.5, -0.0, 0.0 / 0.0, 254.5], 0, 0)?;
+    f64_u8(rt, [2.5, 300.0, 1.0, 1.0], 4, 0)?;
+    f64_u8(rt, [-0.5, 300.0, -300.25, 2.5], 3, 1)?;
+    f64_u8(rt, [-0.5, 300.0, -300.25, 2.5], 3, 2)?;
+    f64_u8(rt, [1.0, 2.0, 1.0 / 0.0, 4.0], 0, 1)?;
+    f64_u8(rt, [1.0, 2.0, 3.0, 4.0], 5, 0)?;
+    f64_i32(
+        rt,
+        [0.49999999999999994, -2147483648.5, 0.0 / 0.0, -0.0],
+        4,
+        1,
+    )?;
+    f64_i32(rt, [0.5, -0.5, 2147483647.5, 1.0], 2, 0)?;
+    f64_i32(
+        rt,
+        [4294967297.5, -4294967297.5, -2147483649.0, 1e300],
+        1,
+        2,
+    )?;
+    f64_i32(rt, [1.0, -1.0 / 0.0, 3.0, 4.0], 0, 2)?;
+    f64_i32(rt, [1.0, 2.0, 3.0, 4.0], 0, 3)?;
+    f64_f32(rt, [16777217.0, -16777217.0, 1e-46, 0.1], 0, 0)?;
+    f64_f32(rt, [16777217.0, -16777217.0, 1e-46, 0.1], 4, 0)?;
+    f64_f32(rt, [16777217.0, -16777217.0, 1e-46, 0.1], 2, 0)?;
+    f64_f32(rt, [0.0 / 0.0, -0.0, 1.0 / 0.0, -1e-300], 2, 0)?;
+    f64_f32(rt, [1.0, 1e39, 2.0, 3.0], 0, 0)?;
+    f64_f32(rt, [1.0, 1e39, -1e39, 3.0], 1, 1)?;
+    f64_f32(rt, [1.0, 2.0, -1e300, 3.0], 1, 0)?;
+    f64_f32(rt, [1.0, 2.0, -1e300, 3.0], 1, 2)
 }
 
-fn from_others() {
-    f32_u8([2.5, -0.0, 0.0 / 0.0, 254.5], 0, 0);
-    f32_u8([-0.5, 300.0, -300.25, 2.5], 3, 2);
-    f32_u8([255.5, 1.0, 1.0, 1.0], 0, 0);
-    f32_u8([1.0, 2.0, 3.0, -1.0 / 0.0], 0, 1);
-    i64_f32([16777217, -16777217, 0, -7], 0, 0);
-    i64_f32([16777217, -16777217, 9223372036854775807, 1], 4, 0);
-    i64_f32([16777217, -16777217, 9223372036854775807, 1], 2, 0);
-    i64_f32([16777217, -16777217, 9223372036854775807, 1], 2, 2);
-    i64_f32([-9223372036854775807, 33554435, -33554435, 8], 1, 1);
+fn from_others(rt: &impl Print) -> io::Result<()> {
+    f32_u8(rt, [2.5, -0.0, 0.0 / 0.0, 254.5], 0, 0)?;
+    f32_u8(rt, [-0.5, 300.0, -300.25, 2.5], 3, 2)?;
+    f32_u8(rt, [255.5, 1.0, 1.0, 1.0], 0, 0)?;
+    f32_u8(rt, [1.0, 2.0, 3.0, -1.0 / 0.0], 0, 1)?;
+    i64_f32(rt, [16777217, -16777217, 0, -7], 0, 0)?;
+    i64_f32(rt, [16777217, -16777217, 9223372036854775807, 1], 4, 0)?;
+    i64_f32(rt, [16777217, -16777217, 9223372036854775807, 1], 2, 0)?;
+    i64_f32(rt, [16777217, -16777217, 9223372036854775807, 1], 2, 2)?;
+    i64_f32(rt, [-9223372036854775807, 33554435, -33554435, 8], 1, 1)
 }
 
-fn main() {
-    from_f64();
-    from_others();
+fn main(rt: HostRuntime) -> io::Result<()> {
+    from_f64(&rt)?;
+    from_others(&rt)
 }
