@@ -25,7 +25,7 @@ use Rattle.grid.proofs.Sides.{exact_is}
 use Rattle.patterns.specs.Float.{bits_mag, inf_bits}
 use Rattle.patterns.specs.Kind.{Kind, binary}
 use Rattle.patterns.specs.Pattern.{mag_bits, pattern_of, with_sign}
-use Rattle.patterns.specs.Value.{Value, nan, inf, num, negative, value_of}
+use Rattle.patterns.specs.Value.{Value, nan, inf, num, value_of}
 use Rattle.patterns.proofs.AnyKind.{largest_bits}
 use Rattle.patterns.proofs.Floats.{abs_signed, number_of_format}
 use Rattle.scaled.specs.Scaled.{Canonical, scaled_of}
