@@ -9,8 +9,7 @@ ghost use Rattle.polskrea.specs.Version.{version};
 use answer_fields::Fields;
 
 // Converts a chunk, returns the answer's number, 0 to 8, and leaves its fields in `answer`.
-#[unsafe(no_mangle)]
-pub extern "C" fn polskrea_convert(
+pub fn polskrea_convert(
     src: &[u8],
     dst: &mut [u8],
     keys: &[u8],
@@ -28,8 +27,7 @@ pub extern "C" fn polskrea_convert(
 }
 
 // The version of the calls above.
-#[unsafe(no_mangle)]
-pub extern "C" fn polskrea_version() -> u32
+pub fn polskrea_version() -> u32
     ensures { result ≡ version }
 {
     2
