@@ -23,7 +23,7 @@ use Rattle.chunk_element.specs.Place.{FitReady, refused_answer}
 use Rattle.replies.specs.Reply.{reply_of}
 use Rattle.chunk_run.specs.Run.{RunReady, Ran, outcomes}
 use Rattle.answers.specs.declared.Outcome.{Outcome}
-use Rattle.answers.specs.declared.Outcome.TheVariants.{Stored}
+use Rattle.answers.specs.declared.Outcome.TheVariants.{Stored, NanOrInf, OutOfRange, FloatOutOfRange}
 use Rattle.answers.specs.declared.Fit.{Fit}
 use Rattle.answers.specs.declared.Fit.TheVariants.{Pattern}
 use Rattle.cast_spec.specs.Fit.{fit_of}
@@ -36,6 +36,13 @@ use Rattle.chunk_element.proofs.Elements.{refused_is, target_place}
 use Rattle.answers.specs.declared.Answer.TheVariants as A
 use Rattle.cast_spec.specs.Element as E
 use Rattle.cast_spec.proofs.Runs as runs
+
+-- an outcome whose fit is no pattern refuses
+pub unstored : (o : Outcome) (r : Fit) → r ≡ fit_of o → ((b : ℕ) (f : Fared) → r ≡ Pattern b f → ⊥) → Refuses o
+unstored (Stored b f) r e apart = absurd (apart b f e)
+unstored (NanOrInf v) r e apart = tt
+unstored (OutOfRange v lo hi) r e apart = tt
+unstored (FloatOutOfRange v lo hi) r e apart = tt
 
 module _ (S : E.Settings) (sw dw : ℕ) (src dst₀ : List ℕ) (n : ℕ) where
   abbrev o : ℕ → Outcome
