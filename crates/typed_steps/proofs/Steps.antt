@@ -1,6 +1,7 @@
 -- One element, stored or refused as its fit says: the next state, the destination and the tally are those of its outcome.
 use mathlib.Core.Path.{◌≡◌, refl, sym, ap, subst, ◌∙◌}
 use mathlib.Core.List.{List, [], ◌∷◌}
+use mathlib.Core.Logic.{inl, inr}
 use Prim.Native.Nat.{ℕ, ◌+◌}
 use lib.ListN.{set}
 use types.Run.{OneOf}
@@ -11,6 +12,7 @@ use Rattle.tallies.specs.Tally.{Tallied}
 use Rattle.answers.specs.declared.Answer.TheVariants.{Converted}
 use Rattle.counts.specs.declared.Fared.{Fared}
 use Rattle.answers.specs.declared.Fit.{Fit}
+use Rattle.answers.specs.declared.Fit.TheVariants as F
 use Rattle.answers.specs.declared.Fit.TheVariants.{Pattern}
 use Rattle.answers.specs.declared.Lookup.{Lookup}
 use Rattle.answers.specs.declared.Outcome.{Outcome}
@@ -26,6 +28,12 @@ use Rattle.typed_states.specs.declared.State.{State}
 use Rattle.typed_states.specs.States.{stopped}
 use Rattle.typed_sources.specs.Sources.{state_at}
 use Rattle.typed_steps.specs.Loop.{outcome_for, next_state, stored_in, TalliedBy}
+
+-- a fit that is no pattern, as a program tells it: by the number of its variant
+pub no_pattern : (x : Fit) → ((b : ℕ) (how : Fared) → x ≡ Pattern b how → ⊥) → OneOf (1 ∷ 2 ∷ []) (tag_of the_type x)
+no_pattern (Pattern b how) h = absurd (h b how refl)
+no_pattern F.NotFinite h = inl refl
+no_pattern F.OutOfRange h = inr refl
 
 -- the element of the state s, which the steps from one kind to the other take to the fit x, with the destination ds and the tally ts; and the state r after it
 module _ {D : Type 0} (of : ℕ → D) (ps : List ℕ) (ds : List D) (ts : List ℕ) (from to : ℕ) (s : State) (f : Lookup) (x : Fit) (e : x ≡ stepped f (kind_of from) (kind_of to) s.rounding s.range s.x) (r : State) where

@@ -1,0 +1,13 @@
+-- What is to be found from i on is what is to be found from the start.
+use Rattle.std.proofs.Common.{length, ◌-◌}
+use Rattle.patterns.specs.Value.{value_of}
+use Rattle.kinds.specs.Table.{kind_of}
+use Rattle.typed_entries.specs.Entries.{i64F32}
+use Rattle.typed_entries.proofs.Lookups.{Same}
+use Rattle.typed_entries.proofs.lookup_i64_f32.Given as goal
+
+abbrev pub invariant-loop-i : goal.invariant-loop-i
+invariant-loop-i l = Same i64F32 (kind_of 3) (value_of (kind_of 3) l.x) l.entries l.i
+
+abbrev pub decreases-loop-i : goal.decreases-loop-i
+decreases-loop-i l = length l.entries - l.i
