@@ -55,6 +55,7 @@ fn infinite_or_nan(negative: bool, fraction: u64, nan: u64) -> Float
 }
 
 // An f64's bits as an element.
+#[tactic(auto, using(crate::proofs::Arms::f64_zero_field, crate::proofs::Arms::f64_middle_field, crate::proofs::Arms::f64_top_field))]
 pub fn read_f64(b: u64) -> Float
     ensures { result ≡ float_of f64 b }
 {

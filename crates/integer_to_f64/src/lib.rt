@@ -14,6 +14,7 @@ use grid::{Rounded, RoundingMode, Ternary};
 
 // The f64 bits below the sign of the integer rounded once to `precision` significant bits. Zero is told first: a machine that is set to round downwards
 // would convert it to -0.
+#[tactic(auto, using(crate::proofs::Scale::zero_rounded))]
 pub fn int_to_f64_magnitude(
     magnitude: u64,
     negative: bool,

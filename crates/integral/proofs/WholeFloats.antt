@@ -105,6 +105,9 @@ integral_at neg mode n m t e l = rw (e, l)
 pub whole_exact : (neg : Bool) (mode : RoundingMode) (m e : ℕ) → 1074 ≤ e → Exact ≡ ternary_for (whole 1074) neg mode (m * 2 ^ e)
 whole_exact neg mode m e h = sym (exact_is _ _ (ap (signed neg) (pick_exact (whole 1074) tt (rule_for neg mode) m e h)))
 
+pub whole_stays : (neg : Bool) (mode : RoundingMode) (x : Scaled) → Canonical x → 1074 ≤ x.exponent → record { magnitude = x; ternary = Exact } ≡ integral_of neg mode (x.significand * 2 ^ x.exponent)
+whole_stays neg mode x canonical h = integral_at neg mode (x.significand * 2 ^ x.exponent) x Exact (whole_already (rule_for neg mode) x canonical h) (whole_exact neg mode x.significand x.exponent h)
+
 -- ---- the pattern of the pick, of an element x that was read of the pattern b
 module _ (p w s : ℕ) (mode : RoundingMode) (b : ℕ) (x : Float) (is : x ≡ float_of (binary p w s) b) where
   abbrev k : Kind

@@ -22,6 +22,7 @@ struct WholeMagnitude {
 }
 
 // A finite magnitude rounded to a whole number; from the exponent 1074 on, where the unit is 1, it is whole already.
+#[tactic(auto, using(crate::proofs::WholeFloats::whole_stays))]
 fn integral(x: Scaled, mode: RoundingMode, negative: bool) -> WholeMagnitude
     requires { Canonical x }
     ensures { result ≡ integral_of negative mode (x.significand * 2 ^ x.exponent) }

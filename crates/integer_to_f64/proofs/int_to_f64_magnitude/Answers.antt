@@ -3,11 +3,7 @@ use Rattle.std.proofs.Common.{ℕ, false, ap₂}
 use Rattle.grid.specs.declared.Rounded.{Rounded}
 use Rattle.grid.specs.declared.Ternary.{Ternary}
 use Rattle.patterns.proofs.IeeeBits.{whole_bits, valued_no_nan}
-use Rattle.integer_to_f64.proofs.Scale.{zero_rounded}
 use Rattle.integer_to_f64.proofs.int_to_f64_magnitude.Goals as goal
-
-pub returns-then-magnitude-eq0 : goal.returns-then-magnitude-eq0
-returns-then-magnitude-eq0 c = let a = c.args in zero_rounded a.precision a.magnitude c.requires.two a.negative a.mode c.if-magnitude-eq0.true
 
 pub float_to_bits-result : goal.float_to_bits-result
 float_to_bits-result c = let x = c.round_int_to_precision-rounded in valued_no_nan x.result.magnitude false _ 1 x.ensures.0.value

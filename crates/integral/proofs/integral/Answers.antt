@@ -1,16 +1,10 @@
 -- Whole already, or the count of whole numbers normalized, and where it lies.
 use Rattle.std.proofs.Common.{◌*◌, ◌^◌, ◌<◌, ap, subst, sym, ◌∙◌, arith}
 use Rattle.grid.specs.Round.{rule_for}
-use Rattle.grid.specs.declared.Ternary.TheVariants.{Exact}
 use Rattle.scaled.specs.Scaled.{scaled_of}
 use Rattle.whole_numbers.specs.declared.Whole.{Whole}
-use Rattle.integral.proofs.WholeFloats.{whole_already, whole_exact, count_lt, count_times, integral_at}
+use Rattle.integral.proofs.WholeFloats.{count_lt, count_times, integral_at}
 use Rattle.integral.proofs.integral.Goals as goal
-
-pub returns-then-x-ge1074 : goal.returns-then-x-ge1074
-returns-then-x-ge1074 c =
-    let a = c.args in
-    integral_at a.negative a.mode _ a.x Exact (whole_already (rule_for a.negative a.mode) a.x c.requires c.if-x-ge1074.true) (whole_exact a.negative a.mode a.x.significand a.x.exponent c.if-x-ge1074.true)
 
 pub normalize-requires : goal.normalize-requires
 normalize-requires c = (subst (λ (w : Whole). w.magnitude < 2 ^ 53) (sym c.round_to_whole-whole.ensures) (count_lt _ c.args.x c.requires c.if-x-ge1074.false), omega arith)
