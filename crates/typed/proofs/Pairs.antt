@@ -1,13 +1,12 @@
--- The five pairs of kinds, each by its types and its patterns.
+-- The five pairs of kinds, each by its patterns.
 use mathlib.Core.Bool.{true}
 use mathlib.Core.Path.{◌≡◌, refl, ap, subst, sym, ◌∙◌}
 use mathlib.Core.List.{List, [], ◌∷◌, map}
 use Prim.Native.Nat.{ℕ, ◌%◌}
-use native.Mathlib.Nat.{mod-mod, mod-eq_of_lt}
+use native.Mathlib.Nat.{mod-mod}
 use lib.Ieee.{Float, binary64}
 use lib.IntN.{ℤ}
 use lib.Dec.{lit<}
-use denote.Builtin as B
 use Rattle.bytes_le.specs.Bytes.{to_le}
 use Rattle.patterns.specs.Pattern.{nan_pattern}
 use Rattle.patterns.specs.Kind.{f64}
@@ -21,12 +20,13 @@ use Rattle.patterns.proofs.Integers.{no_integer_nan}
 use Rattle.typed_values.proofs.Nans.{Back, quiet, quiet_kept, bits_are_back}
 use Rattle.typed_values.proofs.Fits.{f64_fits, f32_fits, i64_fits, i32_fits, u8_fits}
 use Rattle.typed_entries.specs.Entries.{f64U8, f64I32, f32U8, f64F32, i64F32}
+use Rattle.typed_entries.specs.declared.EntryF64U8.{EntryF64U8}
+use Rattle.typed_entries.specs.declared.EntryF64I32.{EntryF64I32}
+use Rattle.typed_entries.specs.declared.EntryF32U8.{EntryF32U8}
 use Rattle.typed_entries.specs.declared.EntryI64F32.{EntryI64F32}
 use Rattle.typed_entries.specs.declared.Entry.{Entry}
-use Rattle.typed_entries.proofs.EntryTypes as entries
 use Rattle.typed.proofs.Stored.{read_back, stored_back}
-use Rattle.typed.proofs.Turns.{settings}
-use Rattle.typed.proofs.Conversions.{Pair}
+use Rattle.typed.proofs.Turns.{Elements, settings}
 use Rattle.typed.proofs.Places.{low_bytes}
 
 -- ---- a stored pattern is that of the element then
@@ -42,122 +42,82 @@ f64_to_f32_kept es rounding range x b f e = read_back b (stored_back f64F32 (λ 
 pub i64_to_f32_kept : (es : List EntryI64F32) (rounding range : ℕ) (x : ℤ) (b : ℕ) (f : Fared) → outcome_of (settings 3 8 (map i64F32 es) rounding range) (i64Bits x) ≡ Stored b f → to_le 4 (f32Bits (f32Of b)) ≡ to_le 4 b
 i64_to_f32_kept es rounding range x b f e = read_back b (stored_back i64F32 (λ z. bits_are_back z.target) es (settings 3 8 (map i64F32 es) rounding range) refl refl (i64Bits x) b f (λ h. absurd (no_integer_nan true 64 (i64Bits x) h)) e)
 
-abbrev pub f64_to_u8 : Pair
+abbrev pub f64_to_u8 : Elements Float ℕ EntryF64U8
 f64_to_u8 = record {
-  source = B.f64;
-  target = B.u8;
-  entry = entries.f64_to_u8;
-  source_one = tt;
-  target_one = tt;
-  elements = record {
-    from = 9;
-    to = 4;
-    from_listed = lit< tt;
-    to_listed = lit< tt;
-    source_bits = f64Bits;
-    target_bits = u8Bits;
-    target_of = u8Of;
-    entry_bits = f64U8;
-    source_fits = f64_fits;
-    key_fits = λ e. f64_fits e.key;
-    target_fits = λ e. u8_fits e.target;
-    keeps = λ es rounding range x b f e. u8_kept b;
-  };
-  own = λ x h. refl;
+  from = 9;
+  to = 4;
+  from_listed = lit< tt;
+  to_listed = lit< tt;
+  source_bits = f64Bits;
+  target_bits = u8Bits;
+  target_of = u8Of;
+  entry_bits = f64U8;
+  source_fits = f64_fits;
+  key_fits = λ e. f64_fits e.key;
+  target_fits = λ e. u8_fits e.target;
+  keeps = λ es rounding range x b f e. u8_kept b;
 }
 
-abbrev pub f64_to_i32 : Pair
+abbrev pub f64_to_i32 : Elements Float ℤ EntryF64I32
 f64_to_i32 = record {
-  source = B.f64;
-  target = B.i32;
-  entry = entries.f64_to_i32;
-  source_one = tt;
-  target_one = tt;
-  elements = record {
-    from = 9;
-    to = 2;
-    from_listed = lit< tt;
-    to_listed = lit< tt;
-    source_bits = f64Bits;
-    target_bits = i32Bits;
-    target_of = i32Of;
-    entry_bits = f64I32;
-    source_fits = f64_fits;
-    key_fits = λ e. f64_fits e.key;
-    target_fits = λ e. i32_fits e.target;
-    keeps = λ es rounding range x b f e. i32_kept b;
-  };
-  own = λ x h. refl;
+  from = 9;
+  to = 2;
+  from_listed = lit< tt;
+  to_listed = lit< tt;
+  source_bits = f64Bits;
+  target_bits = i32Bits;
+  target_of = i32Of;
+  entry_bits = f64I32;
+  source_fits = f64_fits;
+  key_fits = λ e. f64_fits e.key;
+  target_fits = λ e. i32_fits e.target;
+  keeps = λ es rounding range x b f e. i32_kept b;
 }
 
-abbrev pub f32_to_u8 : Pair
+abbrev pub f32_to_u8 : Elements Float ℕ EntryF32U8
 f32_to_u8 = record {
-  source = B.f32;
-  target = B.u8;
-  entry = entries.f32_to_u8;
-  source_one = tt;
-  target_one = tt;
-  elements = record {
-    from = 8;
-    to = 4;
-    from_listed = lit< tt;
-    to_listed = lit< tt;
-    source_bits = f32Bits;
-    target_bits = u8Bits;
-    target_of = u8Of;
-    entry_bits = f32U8;
-    source_fits = f32_fits;
-    key_fits = λ e. f32_fits e.key;
-    target_fits = λ e. u8_fits e.target;
-    keeps = λ es rounding range x b f e. u8_kept b;
-  };
-  own = λ x h. mod-eq_of_lt h;
+  from = 8;
+  to = 4;
+  from_listed = lit< tt;
+  to_listed = lit< tt;
+  source_bits = f32Bits;
+  target_bits = u8Bits;
+  target_of = u8Of;
+  entry_bits = f32U8;
+  source_fits = f32_fits;
+  key_fits = λ e. f32_fits e.key;
+  target_fits = λ e. u8_fits e.target;
+  keeps = λ es rounding range x b f e. u8_kept b;
 }
 
-abbrev pub f64_to_f32 : Pair
+abbrev pub f64_to_f32 : Elements Float Float Entry
 f64_to_f32 = record {
-  source = B.f64;
-  target = B.f32;
-  entry = entries.f64_to_f32;
-  source_one = tt;
-  target_one = tt;
-  elements = record {
-    from = 9;
-    to = 8;
-    from_listed = lit< tt;
-    to_listed = lit< tt;
-    source_bits = f64Bits;
-    target_bits = f32Bits;
-    target_of = f32Of;
-    entry_bits = f64F32;
-    source_fits = f64_fits;
-    key_fits = λ e. f64_fits e.key;
-    target_fits = λ e. f32_fits e.target;
-    keeps = f64_to_f32_kept;
-  };
-  own = λ x h. refl;
+  from = 9;
+  to = 8;
+  from_listed = lit< tt;
+  to_listed = lit< tt;
+  source_bits = f64Bits;
+  target_bits = f32Bits;
+  target_of = f32Of;
+  entry_bits = f64F32;
+  source_fits = f64_fits;
+  key_fits = λ e. f64_fits e.key;
+  target_fits = λ e. f32_fits e.target;
+  keeps = f64_to_f32_kept;
 }
 
-abbrev pub i64_to_f32 : Pair
+abbrev pub i64_to_f32 : Elements ℤ Float EntryI64F32
 i64_to_f32 = record {
-  source = B.i64;
-  target = B.f32;
-  entry = entries.i64_to_f32;
-  source_one = tt;
-  target_one = tt;
-  elements = record {
-    from = 3;
-    to = 8;
-    from_listed = lit< tt;
-    to_listed = lit< tt;
-    source_bits = i64Bits;
-    target_bits = f32Bits;
-    target_of = f32Of;
-    entry_bits = i64F32;
-    source_fits = i64_fits;
-    key_fits = λ e. i64_fits e.key;
-    target_fits = λ e. f32_fits e.target;
-    keeps = i64_to_f32_kept;
-  };
-  own = λ x h. refl;
+  from = 3;
+  to = 8;
+  from_listed = lit< tt;
+  to_listed = lit< tt;
+  source_bits = i64Bits;
+  target_bits = f32Bits;
+  target_of = f32Of;
+  entry_bits = i64F32;
+  source_fits = i64_fits;
+  key_fits = λ e. i64_fits e.key;
+  target_fits = λ e. f32_fits e.target;
+  keeps = i64_to_f32_kept;
 }
