@@ -30,7 +30,7 @@ element_of (Float f) b = E.Float (form.float_of (float_of f) b)
 -- the f64 of an element, an integer's by nearest-even
 unfoldable pub element_f64 : Element → ℕ
 element_f64 (E.Integer x) = pattern_of f64 x.negative (pick (grid_of f64) NearestEven (signed x.negative (x.magnitude * 2 ^ 1074)))
-element_f64 (E.Float x) = form.f64Of x
+element_f64 (E.Float x) = form.f64_of x
 
 abbrev pub CanonicalElement : Element → Type 0
 CanonicalElement (E.Integer x) = Unit {0}

@@ -20,7 +20,7 @@ use Rattle.cast_spec.specs.Fit.{fit_number}
 use Rattle.scaled.specs.Scaled.{Canonical, finite_bits}
 use Rattle.scaled.specs.declared.Scaled.{Scaled}
 use Rattle.scaled.proofs.Magnitudes.{scaled_only, scaled_bits}
-use Rattle.floats.specs.Form.{f64Of}
+use Rattle.floats.specs.Form.{f64_of}
 use Rattle.floats.specs.declared.Class.{Class}
 use Rattle.floats.specs.declared.Class.TheVariants.{Finite, Infinite, NotANumber}
 use Rattle.floats.specs.declared.Float.{Float}
@@ -44,11 +44,11 @@ finite_to_f64 neg x h mode range =
     bits_fit 53 11 neg range (finite_bits x) side.Exact (omega (arith, h.small, h.finite))
     ∙ number_fit 53 11 0 (lit≤ tt) (lit< tt) mode range neg (x.significand * 2 ^ x.exponent) (finite_bits x) (bits_of x h (rule_for neg mode)) side.Exact (sym (exact_is _ _ (ap (signed neg) (own_pick x h (rule_for neg mode)))))
 
-pub special_to_f64 : (f : Float) → Special f.class → (mode : RoundingMode) (range : OutOfRangeMode) → Pattern (f64Of f) Exact ≡ fit_float f64 mode range f
+pub special_to_f64 : (f : Float) → Special f.class → (mode : RoundingMode) (range : OutOfRangeMode) → Pattern (f64_of f) Exact ≡ fit_float f64 mode range f
 unfolding nan_pattern
 special_to_f64 f ok mode range = go f.class refl ok
   where
-    go : (c : Class) → f.class ≡ c → Special c → Pattern (f64Of (record { negative = f.negative; class = c })) Exact ≡ fit_class f64 mode range f c
+    go : (c : Class) → f.class ≡ c → Special c → Pattern (f64_of (record { negative = f.negative; class = c })) Exact ≡ fit_class f64 mode range f c
     go (Finite x) e h = absurd h
     go Infinite e h = refl
-    go (NotANumber t) e h = ap (λ (c : Class). Pattern (f64Of (record { negative = f.negative; class = c })) Exact) (sym e)
+    go (NotANumber t) e h = ap (λ (c : Class). Pattern (f64_of (record { negative = f.negative; class = c })) Exact) (sym e)

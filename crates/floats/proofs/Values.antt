@@ -22,7 +22,7 @@ use Rattle.scaled.specs.Scaled.{scaled_of}
 use Rattle.scaled.specs.declared.Scaled.{Scaled}
 use Rattle.scaled.proofs.Magnitudes.{scaled_bits, scaled_leading, scaled_small, scaled_whole}
 use Rattle.floats.specs.declared.Float.{Float}
-use Rattle.floats.specs.Form.{CanonicalClass, class_bits, class_for, f64Of, float_of}
+use Rattle.floats.specs.Form.{CanonicalClass, class_bits, class_for, f64_of, float_of}
 use Rattle.floats.specs.declared.Class.TheVariants.{Finite}
 use Rattle.floats.proofs.Forms.{quiet_fraction}
 
@@ -42,7 +42,7 @@ record NanForm (k : Kind) (b : ℕ) : Type 0 where
 -- the form of a pattern
 pub record Formed (k : Kind) (b : ℕ) : Type 0 where
   pub canonical : CanonicalClass (float_of k b).class
-  pub written : f64Of (float_of k b) ≡ as_f64 k b
+  pub written : f64_of (float_of k b) ≡ as_f64 k b
   pub number : (x : ℤ) → value_of k b ≡ num x → signed (negative k b) ((scaled_of (nat_abs x)).significand * 2 ^ (scaled_of (nat_abs x)).exponent) ≡ x
 
 -- ---- the form of a pattern whose numbers are numbers of f64

@@ -36,5 +36,5 @@ class_bits Infinite = inf_bits 53 11
 class_bits (NotANumber t) = inf_bits 53 11 + t
 
 -- the f64 with that sign and class
-abbrev pub f64Of : Float → ℕ
-f64Of x = with_sign 64 x.negative (class_bits x.class)
+abbrev pub f64_of : Float → ℕ
+f64_of x = with_sign 64 x.negative (class_bits x.class)

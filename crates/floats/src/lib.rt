@@ -5,7 +5,7 @@
 ghost use Rattle.std.specs.Prelude.{◌≡◌, ℕ};
 ghost use Rattle.patterns.specs.Kind.{binary, f16, f32, f64};
 ghost use Rattle.float_fields.specs.Widened.{Widens, WidenedFields, widened_of};
-ghost use Rattle.floats.specs.Form.{finite_float, infinite_or_nan, float_of, CanonicalClass, f64Of};
+ghost use Rattle.floats.specs.Form.{finite_float, infinite_or_nan, float_of, CanonicalClass, f64_of};
 
 use float_fields::Widened;
 use scaled::Scaled;
@@ -106,7 +106,7 @@ pub fn read_f16(b: u16) -> Float
 // The f64 of an element.
 pub fn write_f64(x: Float) -> u64
     requires { CanonicalClass x.class }
-    ensures { result ≡ f64Of x }
+    ensures { result ≡ f64_of x }
 {
     let sign = float_fields::sign_bit(x.negative, 63);
     let class = x.class;

@@ -19,7 +19,7 @@ use Rattle.patterns.proofs.Quiet.{quiet_lt}
 use Rattle.counts.specs.declared.Fared.TheVariants.{Exact}
 use Rattle.codes.specs.declared.OutOfRangeMode.{OutOfRangeMode}
 use Rattle.answers.specs.declared.Fit.TheVariants.{Pattern}
-use Rattle.floats.specs.Form.{CanonicalClass, f64Of}
+use Rattle.floats.specs.Form.{CanonicalClass, f64_of}
 use Rattle.floats.specs.declared.Class.{Class}
 use Rattle.floats.specs.declared.Class.TheVariants.{Finite, Infinite, NotANumber}
 use Rattle.floats.specs.declared.Float.{Float}
@@ -46,13 +46,13 @@ module _ (p w s : ℕ) (mode : RoundingMode) (range : OutOfRangeMode) (f : Float
 
   -- the sign and the fraction of the f64 that stands for a NaN
   module _ (t : ℕ) (e : f.class ≡ NotANumber t) (small : t < 2 ^ 52) where
-    nan_bits : f64Of f ≡ with_sign 64 f.negative (inf_bits 53 11 + t)
-    nan_bits = ap (λ (c : Class). f64Of (record { negative = f.negative; class = c })) e
+    nan_bits : f64_of f ≡ with_sign 64 f.negative (inf_bits 53 11 + t)
+    nan_bits = ap (λ (c : Class). f64_of (record { negative = f.negative; class = c })) e
 
-    nan_sign : negative f64 (f64Of f) ≡ f.negative
+    nan_sign : negative f64 (f64_of f) ≡ f.negative
     nan_sign = ap (negative f64) nan_bits ∙ sign_is 53 11 0 (lit≤ tt) (lit< tt) f.negative (inf_bits 53 11 + t) (omega arith)
 
-    nan_fraction : f64Of f % 2 ^ 52 ≡ t % 2 ^ 52
+    nan_fraction : f64_of f % 2 ^ 52 ≡ t % 2 ^ 52
     nan_fraction = ap (λ (z : ℕ). z % 2 ^ 52) nan_bits ∙ go f.negative
       where
         go : (neg : Bool) → with_sign 64 neg (inf_bits 53 11 + t) % 2 ^ 52 ≡ t % 2 ^ 52
@@ -63,7 +63,7 @@ module _ (p w s : ℕ) (mode : RoundingMode) (range : OutOfRangeMode) (f : Float
     unfolding nan_pattern
     nan_fit less =
         sym (simp (ne_eqb 53 p (λ (z : 53 ≡ p). omega arith))
-        (ap (λ (b : Bool). Pattern (with_sign (w + p) b (inf_bits p w + quiet 53 p (f64Of f))) Exact) nan_sign
+        (ap (λ (b : Bool). Pattern (with_sign (w + p) b (inf_bits p w + quiet 53 p (f64_of f))) Exact) nan_sign
         ∙ ap (λ (z : ℕ). Pattern (with_sign (w + p) f.negative (inf_bits p w + (2 ^ (p - 2) + z * 2 ^ (p - 1) / 2 ^ 52 % 2 ^ (p - 2)))) Exact) nan_fraction))
         ∙ ap (fit_class (binary p w s) mode range f) (sym e)
 

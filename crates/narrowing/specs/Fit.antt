@@ -9,7 +9,7 @@ use Rattle.codes.specs.declared.OutOfRangeMode.{OutOfRangeMode}
 use Rattle.answers.specs.declared.Fit.{Fit}
 use Rattle.answers.specs.declared.Fit.TheVariants.{Pattern, NotFinite}
 use Rattle.cast_spec.specs.Fit.{fit_number}
-use Rattle.floats.specs.Form.{f64Of}
+use Rattle.floats.specs.Form.{f64_of}
 use Rattle.floats.specs.declared.Class.{Class}
 use Rattle.floats.specs.declared.Class.TheVariants.{Finite, Infinite, NotANumber}
 use Rattle.floats.specs.declared.Float.{Float}
@@ -25,7 +25,7 @@ fit_class k rule range f (Finite x) = fit_number k rule range f.negative (signed
 fit_class (integer s n) rule range f Infinite = NotFinite
 fit_class (integer s n) rule range f (NotANumber t) = NotFinite
 fit_class (binary p w s) rule range f Infinite = Pattern (infinity p w f.negative) Exact
-fit_class (binary p w s) rule range f (NotANumber t) = Pattern (nan_pattern f64 p w (f64Of f)) Exact
+fit_class (binary p w s) rule range f (NotANumber t) = Pattern (nan_pattern f64 p w (f64_of f)) Exact
 
 abbrev pub fit_float : Kind → RoundingMode → OutOfRangeMode → Float → Fit
 fit_float k rule range f = fit_class k rule range f f.class

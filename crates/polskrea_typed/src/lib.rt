@@ -2,8 +2,8 @@
 #![tactic(auto)]
 
 ghost use Rattle.std.specs.Prelude.{map};
-ghost use Rattle.typed_values.specs.Bits.{f64Bits, f32Bits, i64Bits, u8Bits, i32Bits};
-ghost use Rattle.typed_entries.specs.Entries.{f64U8, f64I32, f32U8, f64F32, i64F32};
+ghost use Rattle.typed_values.specs.Bits.{f64_bits, f32_bits, i64_bits, u8_bits, i32_bits};
+ghost use Rattle.typed_entries.specs.Entries.{f64_u8, f64_i32, f32_u8, f64_f32, i64_f32};
 ghost use Rattle.polskrea_typed.specs.Exported.{Exported};
 
 use answer_fields::Fields;
@@ -19,7 +19,7 @@ pub extern "C" fn polskrea_convert_f64_to_u8(
     range: u8,
     answer: &mut Fields,
 ) -> u8
-    ensures { Exported 9 4 (map f64Bits src.now) (map u8Bits dst.old) (map f64U8 entries.now) rounding range result answer.new (map u8Bits dst.new) }
+    ensures { Exported 9 4 (map f64_bits src.now) (map u8_bits dst.old) (map f64_u8 entries.now) rounding range result answer.new (map u8_bits dst.new) }
 {
     let r = typed::convert_f64_to_u8(src, dst, entries, rounding, range);
     answer_fields::answered(r, answer)
@@ -35,7 +35,7 @@ pub extern "C" fn polskrea_convert_f64_to_i32(
     range: u8,
     answer: &mut Fields,
 ) -> u8
-    ensures { Exported 9 2 (map f64Bits src.now) (map i32Bits dst.old) (map f64I32 entries.now) rounding range result answer.new (map i32Bits dst.new) }
+    ensures { Exported 9 2 (map f64_bits src.now) (map i32_bits dst.old) (map f64_i32 entries.now) rounding range result answer.new (map i32_bits dst.new) }
 {
     let r = typed::convert_f64_to_i32(src, dst, entries, rounding, range);
     answer_fields::answered(r, answer)
@@ -51,7 +51,7 @@ pub extern "C" fn polskrea_convert_f32_to_u8(
     range: u8,
     answer: &mut Fields,
 ) -> u8
-    ensures { Exported 8 4 (map f32Bits src.now) (map u8Bits dst.old) (map f32U8 entries.now) rounding range result answer.new (map u8Bits dst.new) }
+    ensures { Exported 8 4 (map f32_bits src.now) (map u8_bits dst.old) (map f32_u8 entries.now) rounding range result answer.new (map u8_bits dst.new) }
 {
     let r = typed::convert_f32_to_u8(src, dst, entries, rounding, range);
     answer_fields::answered(r, answer)
@@ -67,7 +67,7 @@ pub extern "C" fn polskrea_convert_f64_to_f32(
     range: u8,
     answer: &mut Fields,
 ) -> u8
-    ensures { Exported 9 8 (map f64Bits src.now) (map f32Bits dst.old) (map f64F32 entries.now) rounding range result answer.new (map f32Bits dst.new) }
+    ensures { Exported 9 8 (map f64_bits src.now) (map f32_bits dst.old) (map f64_f32 entries.now) rounding range result answer.new (map f32_bits dst.new) }
 {
     let r = typed::convert_f64_to_f32(src, dst, entries, rounding, range);
     answer_fields::answered(r, answer)
@@ -83,7 +83,7 @@ pub extern "C" fn polskrea_convert_i64_to_f32(
     range: u8,
     answer: &mut Fields,
 ) -> u8
-    ensures { Exported 3 8 (map i64Bits src.now) (map f32Bits dst.old) (map i64F32 entries.now) rounding range result answer.new (map f32Bits dst.new) }
+    ensures { Exported 3 8 (map i64_bits src.now) (map f32_bits dst.old) (map i64_f32 entries.now) rounding range result answer.new (map f32_bits dst.new) }
 {
     let r = typed::convert_i64_to_f32(src, dst, entries, rounding, range);
     answer_fields::answered(r, answer)

@@ -19,7 +19,7 @@ use Rattle.counts.specs.declared.Fared.TheVariants.{Exact}
 use Rattle.answers.specs.declared.Fit.TheVariants.{Pattern}
 use Rattle.cast_spec.specs.Element.{converted}
 use Rattle.scaled.specs.Scaled.{scaled_of}
-use Rattle.floats.specs.Form.{class_for, f64Of, float_of}
+use Rattle.floats.specs.Form.{class_for, f64_of, float_of}
 use Rattle.floats.proofs.Values.{Formed, f64_formed}
 use Rattle.cast_spec.specs.Fit.{fit_number, fit_of}
 use Rattle.narrowing.specs.Fit.{fit_class, fit_float}
@@ -42,7 +42,7 @@ module _ (p w s b : ℕ) (formed : Formed (binary p w s) b) (rule : RoundingMode
       go (inf neg) e = refl
       go nan e = refl
 
-  pub form_to_float : (p' w' s' : ℕ) → (value_of k b ≡ nan → nan_pattern f64 p' w' (f64Of (float_of k b)) ≡ nan_pattern k p' w' b) → fit_float (binary p' w' s') rule range (float_of k b) ≡ fit_of (unmapped k (binary p' w' s') rule range b)
+  pub form_to_float : (p' w' s' : ℕ) → (value_of k b ≡ nan → nan_pattern f64 p' w' (f64_of (float_of k b)) ≡ nan_pattern k p' w' b) → fit_float (binary p' w' s') rule range (float_of k b) ≡ fit_of (unmapped k (binary p' w' s') rule range b)
   form_to_float p' w' s' nans = go (value_of k b) refl
     where
       go : (v : Value) → value_of k b ≡ v → fit_class (binary p' w' s') rule range (float_of k b) (class_for k b v) ≡ fit_of (converted (record { from = k; to = binary p' w' s'; rule = rule; range = range; entries = [] }) b (binary p' w' s') v)

@@ -14,12 +14,12 @@ use Rattle.counts.specs.declared.Fared.{Fared}
 use Rattle.answers.specs.declared.Outcome.TheVariants.{Stored}
 use Rattle.cast_spec.specs.Element.{outcome_of}
 use Rattle.typed_patterns.proofs.Signed.{again}
-use Rattle.typed_values.specs.Bits.{f64Bits, f32Bits, i64Bits, u8Bits, i32Bits}
-use Rattle.typed_patterns.specs.Values.{u8Of, i32Of, f32Of}
+use Rattle.typed_values.specs.Bits.{f64_bits, f32_bits, i64_bits, u8_bits, i32_bits}
+use Rattle.typed_patterns.specs.Values.{u8_of, i32_of, f32_of}
 use Rattle.patterns.proofs.Integers.{no_integer_nan}
 use Rattle.typed_values.proofs.Nans.{Back, quiet, quiet_kept, bits_are_back}
 use Rattle.typed_values.proofs.Fits.{f64_fits, f32_fits, i64_fits, i32_fits, u8_fits}
-use Rattle.typed_entries.specs.Entries.{f64U8, f64I32, f32U8, f64F32, i64F32}
+use Rattle.typed_entries.specs.Entries.{f64_u8, f64_i32, f32_u8, f64_f32, i64_f32}
 use Rattle.typed_entries.specs.declared.EntryF64U8.{EntryF64U8}
 use Rattle.typed_entries.specs.declared.EntryF64I32.{EntryF64I32}
 use Rattle.typed_entries.specs.declared.EntryF32U8.{EntryF32U8}
@@ -30,17 +30,17 @@ use Rattle.typed.proofs.Turns.{Elements, settings}
 use Rattle.typed.proofs.Places.{low_bytes}
 
 -- ---- a stored pattern is that of the element then
-pub u8_kept : (b : ℕ) → to_le 1 (u8Bits (u8Of b)) ≡ to_le 1 b
+pub u8_kept : (b : ℕ) → to_le 1 (u8_bits (u8_of b)) ≡ to_le 1 b
 u8_kept b = ap (λ (z : ℕ). z ∷ []) (mod-mod (b % 256) 256 ∙ mod-mod b 256)
 
-pub i32_kept : (b : ℕ) → to_le 4 (i32Bits (i32Of b)) ≡ to_le 4 b
+pub i32_kept : (b : ℕ) → to_le 4 (i32_bits (i32_of b)) ≡ to_le 4 b
 i32_kept b = ap (to_le 4) (again b) ∙ low_bytes 4 b
 
-pub f64_to_f32_kept : (es : List Entry) (rounding range : ℕ) (x : Float) (b : ℕ) (f : Fared) → outcome_of (settings 9 8 (map f64F32 es) rounding range) (f64Bits x) ≡ Stored b f → to_le 4 (f32Bits (f32Of b)) ≡ to_le 4 b
-f64_to_f32_kept es rounding range x b f e = read_back b (stored_back f64F32 (λ z. bits_are_back z.target) es (settings 9 8 (map f64F32 es) rounding range) refl refl (f64Bits x) b f (λ h. subst (λ (z : ℕ). Back (nan_pattern f64 24 8 z)) (sym (quiet binary64 x h)) quiet_kept) e)
+pub f64_to_f32_kept : (es : List Entry) (rounding range : ℕ) (x : Float) (b : ℕ) (f : Fared) → outcome_of (settings 9 8 (map f64_f32 es) rounding range) (f64_bits x) ≡ Stored b f → to_le 4 (f32_bits (f32_of b)) ≡ to_le 4 b
+f64_to_f32_kept es rounding range x b f e = read_back b (stored_back f64_f32 (λ z. bits_are_back z.target) es (settings 9 8 (map f64_f32 es) rounding range) refl refl (f64_bits x) b f (λ h. subst (λ (z : ℕ). Back (nan_pattern f64 24 8 z)) (sym (quiet binary64 x h)) quiet_kept) e)
 
-pub i64_to_f32_kept : (es : List EntryI64F32) (rounding range : ℕ) (x : ℤ) (b : ℕ) (f : Fared) → outcome_of (settings 3 8 (map i64F32 es) rounding range) (i64Bits x) ≡ Stored b f → to_le 4 (f32Bits (f32Of b)) ≡ to_le 4 b
-i64_to_f32_kept es rounding range x b f e = read_back b (stored_back i64F32 (λ z. bits_are_back z.target) es (settings 3 8 (map i64F32 es) rounding range) refl refl (i64Bits x) b f (λ h. absurd (no_integer_nan true 64 (i64Bits x) h)) e)
+pub i64_to_f32_kept : (es : List EntryI64F32) (rounding range : ℕ) (x : ℤ) (b : ℕ) (f : Fared) → outcome_of (settings 3 8 (map i64_f32 es) rounding range) (i64_bits x) ≡ Stored b f → to_le 4 (f32_bits (f32_of b)) ≡ to_le 4 b
+i64_to_f32_kept es rounding range x b f e = read_back b (stored_back i64_f32 (λ z. bits_are_back z.target) es (settings 3 8 (map i64_f32 es) rounding range) refl refl (i64_bits x) b f (λ h. absurd (no_integer_nan true 64 (i64_bits x) h)) e)
 
 abbrev pub f64_to_u8 : Elements Float ℕ EntryF64U8
 f64_to_u8 = record {
@@ -48,10 +48,10 @@ f64_to_u8 = record {
   to = 4;
   from_listed = lit< tt;
   to_listed = lit< tt;
-  source_bits = f64Bits;
-  target_bits = u8Bits;
-  target_of = u8Of;
-  entry_bits = f64U8;
+  source_bits = f64_bits;
+  target_bits = u8_bits;
+  target_of = u8_of;
+  entry_bits = f64_u8;
   source_fits = f64_fits;
   key_fits = λ e. f64_fits e.key;
   target_fits = λ e. u8_fits e.target;
@@ -64,10 +64,10 @@ f64_to_i32 = record {
   to = 2;
   from_listed = lit< tt;
   to_listed = lit< tt;
-  source_bits = f64Bits;
-  target_bits = i32Bits;
-  target_of = i32Of;
-  entry_bits = f64I32;
+  source_bits = f64_bits;
+  target_bits = i32_bits;
+  target_of = i32_of;
+  entry_bits = f64_i32;
   source_fits = f64_fits;
   key_fits = λ e. f64_fits e.key;
   target_fits = λ e. i32_fits e.target;
@@ -80,10 +80,10 @@ f32_to_u8 = record {
   to = 4;
   from_listed = lit< tt;
   to_listed = lit< tt;
-  source_bits = f32Bits;
-  target_bits = u8Bits;
-  target_of = u8Of;
-  entry_bits = f32U8;
+  source_bits = f32_bits;
+  target_bits = u8_bits;
+  target_of = u8_of;
+  entry_bits = f32_u8;
   source_fits = f32_fits;
   key_fits = λ e. f32_fits e.key;
   target_fits = λ e. u8_fits e.target;
@@ -96,10 +96,10 @@ f64_to_f32 = record {
   to = 8;
   from_listed = lit< tt;
   to_listed = lit< tt;
-  source_bits = f64Bits;
-  target_bits = f32Bits;
-  target_of = f32Of;
-  entry_bits = f64F32;
+  source_bits = f64_bits;
+  target_bits = f32_bits;
+  target_of = f32_of;
+  entry_bits = f64_f32;
   source_fits = f64_fits;
   key_fits = λ e. f64_fits e.key;
   target_fits = λ e. f32_fits e.target;
@@ -112,10 +112,10 @@ i64_to_f32 = record {
   to = 8;
   from_listed = lit< tt;
   to_listed = lit< tt;
-  source_bits = i64Bits;
-  target_bits = f32Bits;
-  target_of = f32Of;
-  entry_bits = i64F32;
+  source_bits = i64_bits;
+  target_bits = f32_bits;
+  target_of = f32_of;
+  entry_bits = i64_f32;
   source_fits = i64_fits;
   key_fits = λ e. i64_fits e.key;
   target_fits = λ e. f32_fits e.target;

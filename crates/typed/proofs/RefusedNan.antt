@@ -34,7 +34,7 @@ use Rattle.answers.specs.Answer.{Values, element_values, outcome_number, outcome
 use Rattle.cast_spec.specs.Chunk.{Inputs, call_of, outcome_at}
 use Rattle.cast_spec.specs.Demand1.{Demand1}
 use Rattle.cast_spec.specs.Contract.{Contract}
-use Rattle.typed_values.specs.Bits.{float_bits, i64Bits}
+use Rattle.typed_values.specs.Bits.{float_bits, i64_bits}
 use Rattle.patterns.proofs.Integers.{no_integer_nan}
 use Rattle.typed_values.proofs.Nans.{quiet}
 use Rattle.typed.specs.Typed.{typed_inputs, TypedContract, refused_nan}
@@ -137,4 +137,4 @@ pub f64_to_f32 : RefusalsSettled pairs.f64_to_f32
 f64_to_f32 = refused_nan_lem pairs.f64_to_f32 (float_settled binary64)
 
 pub i64_to_f32 : RefusalsSettled pairs.i64_to_f32
-i64_to_f32 = refused_nan_lem pairs.i64_to_f32 (λ x h. absurd (no_integer_nan true 64 (i64Bits x) h))
+i64_to_f32 = refused_nan_lem pairs.i64_to_f32 (λ x h. absurd (no_integer_nan true 64 (i64_bits x) h))

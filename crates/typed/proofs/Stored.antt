@@ -28,12 +28,12 @@ use Rattle.answers.specs.declared.Lookup.TheVariants.{Found}
 use Rattle.answers.specs.declared.Outcome.{Outcome}
 use Rattle.answers.specs.declared.Outcome.TheVariants.{Stored, NanOrInf, OutOfRange, FloatOutOfRange}
 use Rattle.cast_spec.specs.Element.{Entry, Settings, matches, lookup_of, found_or, ranged, beyond, converted, outcome_of}
-use Rattle.typed_values.specs.Bits.{f32Bits}
-use Rattle.typed_patterns.specs.Values.{f32Of}
+use Rattle.typed_values.specs.Bits.{f32_bits}
+use Rattle.typed_patterns.specs.Values.{f32_of}
 use Rattle.typed_values.proofs.Nans.{Back, not_nan}
 
 -- ---- the f32 read from the pattern b has the bytes of b
-pub read_back : (b : ℕ) → Back b → to_le 4 (f32Bits (f32Of b)) ≡ to_le 4 b
+pub read_back : (b : ℕ) → Back b → to_le 4 (f32_bits (f32_of b)) ≡ to_le 4 b
 read_back b k =
     let x = of_bits binary32 (b % 2 ^ 32) in
     ap (λ (t : Bool). to_le 4 (cond t (to_bits binary32 x) 0)) (is_true (fits binary32 x) (of_bits-fits binary32 (b % 2 ^ 32)))

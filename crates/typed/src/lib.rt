@@ -2,8 +2,8 @@
 #![tactic(auto)]
 
 ghost use Rattle.std.specs.Prelude.{map};
-ghost use Rattle.typed_values.specs.Bits.{f64Bits, f32Bits, i64Bits, u8Bits, i32Bits};
-ghost use Rattle.typed_entries.specs.Entries.{f64U8, f64I32, f32U8, f64F32, i64F32};
+ghost use Rattle.typed_values.specs.Bits.{f64_bits, f32_bits, i64_bits, u8_bits, i32_bits};
+ghost use Rattle.typed_entries.specs.Entries.{f64_u8, f64_i32, f32_u8, f64_f32, i64_f32};
 ghost use Rattle.typed.specs.Typed.{TypedContract};
 
 use answers::Reply;
@@ -37,7 +37,7 @@ pub fn convert_f64_to_u8(
     rounding: u8,
     range: u8,
 ) -> Reply
-    ensures { TypedContract 9 4 (map f64Bits src.now) (map u8Bits dst.old) (map f64U8 entries.now) rounding range result (map u8Bits dst.new) }
+    ensures { TypedContract 9 4 (map f64_bits src.now) (map u8_bits dst.old) (map f64_u8 entries.now) rounding range result (map u8_bits dst.new) }
 {
     let mut s = typed_starts::start_f64(src, dst.len(), CODE_U8, rounding, range);
     let mut tally = tallies::no_tally();
@@ -56,7 +56,7 @@ pub fn convert_f64_to_u8_with3(
     rounding: u8,
     range: u8,
 ) -> Reply
-    ensures { TypedContract 9 4 (map f64Bits src.now) (map u8Bits dst.old) (map f64U8 entries) rounding range result (map u8Bits dst.new) }
+    ensures { TypedContract 9 4 (map f64_bits src.now) (map u8_bits dst.old) (map f64_u8 entries) rounding range result (map u8_bits dst.new) }
 {
     convert_f64_to_u8(src, dst, &entries, rounding, range)
 }
@@ -71,7 +71,7 @@ pub fn convert_f64_to_i32(
     rounding: u8,
     range: u8,
 ) -> Reply
-    ensures { TypedContract 9 2 (map f64Bits src.now) (map i32Bits dst.old) (map f64I32 entries.now) rounding range result (map i32Bits dst.new) }
+    ensures { TypedContract 9 2 (map f64_bits src.now) (map i32_bits dst.old) (map f64_i32 entries.now) rounding range result (map i32_bits dst.new) }
 {
     let mut s = typed_starts::start_f64(src, dst.len(), CODE_I32, rounding, range);
     let mut tally = tallies::no_tally();
@@ -90,7 +90,7 @@ pub fn convert_f64_to_i32_with3(
     rounding: u8,
     range: u8,
 ) -> Reply
-    ensures { TypedContract 9 2 (map f64Bits src.now) (map i32Bits dst.old) (map f64I32 entries) rounding range result (map i32Bits dst.new) }
+    ensures { TypedContract 9 2 (map f64_bits src.now) (map i32_bits dst.old) (map f64_i32 entries) rounding range result (map i32_bits dst.new) }
 {
     convert_f64_to_i32(src, dst, &entries, rounding, range)
 }
@@ -105,7 +105,7 @@ pub fn convert_f32_to_u8(
     rounding: u8,
     range: u8,
 ) -> Reply
-    ensures { TypedContract 8 4 (map f32Bits src.now) (map u8Bits dst.old) (map f32U8 entries.now) rounding range result (map u8Bits dst.new) }
+    ensures { TypedContract 8 4 (map f32_bits src.now) (map u8_bits dst.old) (map f32_u8 entries.now) rounding range result (map u8_bits dst.new) }
 {
     let mut s = typed_starts::start_f32(src, dst.len(), CODE_U8, rounding, range);
     let mut tally = tallies::no_tally();
@@ -124,7 +124,7 @@ pub fn convert_f32_to_u8_with3(
     rounding: u8,
     range: u8,
 ) -> Reply
-    ensures { TypedContract 8 4 (map f32Bits src.now) (map u8Bits dst.old) (map f32U8 entries) rounding range result (map u8Bits dst.new) }
+    ensures { TypedContract 8 4 (map f32_bits src.now) (map u8_bits dst.old) (map f32_u8 entries) rounding range result (map u8_bits dst.new) }
 {
     convert_f32_to_u8(src, dst, &entries, rounding, range)
 }
@@ -139,7 +139,7 @@ pub fn convert_f64_to_f32(
     rounding: u8,
     range: u8,
 ) -> Reply
-    ensures { TypedContract 9 8 (map f64Bits src.now) (map f32Bits dst.old) (map f64F32 entries.now) rounding range result (map f32Bits dst.new) }
+    ensures { TypedContract 9 8 (map f64_bits src.now) (map f32_bits dst.old) (map f64_f32 entries.now) rounding range result (map f32_bits dst.new) }
 {
     let mut s = typed_starts::start_f64(src, dst.len(), CODE_F32, rounding, range);
     let mut tally = tallies::no_tally();
@@ -158,7 +158,7 @@ pub fn convert_f64_to_f32_with3(
     rounding: u8,
     range: u8,
 ) -> Reply
-    ensures { TypedContract 9 8 (map f64Bits src.now) (map f32Bits dst.old) (map f64F32 entries) rounding range result (map f32Bits dst.new) }
+    ensures { TypedContract 9 8 (map f64_bits src.now) (map f32_bits dst.old) (map f64_f32 entries) rounding range result (map f32_bits dst.new) }
 {
     convert_f64_to_f32(src, dst, &entries, rounding, range)
 }
@@ -173,7 +173,7 @@ pub fn convert_i64_to_f32(
     rounding: u8,
     range: u8,
 ) -> Reply
-    ensures { TypedContract 3 8 (map i64Bits src.now) (map f32Bits dst.old) (map i64F32 entries.now) rounding range result (map f32Bits dst.new) }
+    ensures { TypedContract 3 8 (map i64_bits src.now) (map f32_bits dst.old) (map i64_f32 entries.now) rounding range result (map f32_bits dst.new) }
 {
     let mut s = typed_starts::start_i64(src, dst.len(), CODE_F32, rounding, range);
     let mut tally = tallies::no_tally();
@@ -192,7 +192,7 @@ pub fn convert_i64_to_f32_with3(
     rounding: u8,
     range: u8,
 ) -> Reply
-    ensures { TypedContract 3 8 (map i64Bits src.now) (map f32Bits dst.old) (map i64F32 entries) rounding range result (map f32Bits dst.new) }
+    ensures { TypedContract 3 8 (map i64_bits src.now) (map f32_bits dst.old) (map i64_f32 entries) rounding range result (map f32_bits dst.new) }
 {
     convert_i64_to_f32(src, dst, &entries, rounding, range)
 }

@@ -5,7 +5,7 @@ ghost use Rattle.std.specs.Prelude.{◌≡◌, map, ◌%◌, ◌^◌};
 ghost use Rattle.patterns.specs.Value.{value_of};
 ghost use Rattle.kinds.specs.Table.{kind_of};
 ghost use Rattle.cast_spec.specs.Element.{matches, lookup_of};
-ghost use Rattle.typed_entries.specs.Entries.{f64U8, f64I32, f32U8, f64F32, i64F32};
+ghost use Rattle.typed_entries.specs.Entries.{f64_u8, f64_i32, f32_u8, f64_f32, i64_f32};
 
 use answers::Lookup;
 
@@ -53,21 +53,21 @@ pub struct EntryI64F32 {
 
 // Whether an entry matches the f64 of the pattern x.
 fn matches_f64_u8(e: EntryF64U8, x: u64) -> bool
-    ensures { result ≡ matches (value_of (kind_of 9) x) (value_of (kind_of 9) (f64U8 e).key) }
+    ensures { result ≡ matches (value_of (kind_of 9) x) (value_of (kind_of 9) (f64_u8 e).key) }
 {
     typed_keys::key_matches_f64(e.key, x)
 }
 
 // An entry's target.
 fn found_f64_u8(e: EntryF64U8) -> Lookup
-    ensures { result ≡ Lookup.Found (f64U8 e).target }
+    ensures { result ≡ Lookup.Found (f64_u8 e).target }
 {
     Lookup::Found(typed_values::bits_u8(e.target))
 }
 
 // The target of the first entry that matches.
 pub fn lookup_f64_u8(entries: &[EntryF64U8], x: u64) -> Lookup
-    ensures { result ≡ lookup_of (kind_of 9) (value_of (kind_of 9) x) (map f64U8 entries.now) }
+    ensures { result ≡ lookup_of (kind_of 9) (value_of (kind_of 9) x) (map f64_u8 entries.now) }
 {
     let mut i = 0;
     while i < entries.len() {
@@ -84,21 +84,21 @@ pub fn lookup_f64_u8(entries: &[EntryF64U8], x: u64) -> Lookup
 
 // Whether an entry matches the f64 of the pattern x.
 fn matches_f64_i32(e: EntryF64I32, x: u64) -> bool
-    ensures { result ≡ matches (value_of (kind_of 9) x) (value_of (kind_of 9) (f64I32 e).key) }
+    ensures { result ≡ matches (value_of (kind_of 9) x) (value_of (kind_of 9) (f64_i32 e).key) }
 {
     typed_keys::key_matches_f64(e.key, x)
 }
 
 // An entry's target.
 fn found_f64_i32(e: EntryF64I32) -> Lookup
-    ensures { result ≡ Lookup.Found (f64I32 e).target }
+    ensures { result ≡ Lookup.Found (f64_i32 e).target }
 {
     Lookup::Found(typed_values::bits_i32(e.target))
 }
 
 // The target of the first entry that matches.
 pub fn lookup_f64_i32(entries: &[EntryF64I32], x: u64) -> Lookup
-    ensures { result ≡ lookup_of (kind_of 9) (value_of (kind_of 9) x) (map f64I32 entries.now) }
+    ensures { result ≡ lookup_of (kind_of 9) (value_of (kind_of 9) x) (map f64_i32 entries.now) }
 {
     let mut i = 0;
     while i < entries.len() {
@@ -115,21 +115,21 @@ pub fn lookup_f64_i32(entries: &[EntryF64I32], x: u64) -> Lookup
 
 // Whether an entry matches the f32 of the pattern x.
 fn matches_f32_u8(e: EntryF32U8, x: u64) -> bool
-    ensures { result ≡ matches (value_of (kind_of 8) (x % 2 ^ 32)) (value_of (kind_of 8) (f32U8 e).key) }
+    ensures { result ≡ matches (value_of (kind_of 8) (x % 2 ^ 32)) (value_of (kind_of 8) (f32_u8 e).key) }
 {
     typed_keys::key_matches_f32(e.key, x)
 }
 
 // An entry's target.
 fn found_f32_u8(e: EntryF32U8) -> Lookup
-    ensures { result ≡ Lookup.Found (f32U8 e).target }
+    ensures { result ≡ Lookup.Found (f32_u8 e).target }
 {
     Lookup::Found(typed_values::bits_u8(e.target))
 }
 
 // The target of the first entry that matches.
 pub fn lookup_f32_u8(entries: &[EntryF32U8], x: u64) -> Lookup
-    ensures { result ≡ lookup_of (kind_of 8) (value_of (kind_of 8) (x % 2 ^ 32)) (map f32U8 entries.now) }
+    ensures { result ≡ lookup_of (kind_of 8) (value_of (kind_of 8) (x % 2 ^ 32)) (map f32_u8 entries.now) }
 {
     let mut i = 0;
     while i < entries.len() {
@@ -146,21 +146,21 @@ pub fn lookup_f32_u8(entries: &[EntryF32U8], x: u64) -> Lookup
 
 // Whether an entry matches the f64 of the pattern x.
 fn matches_f64_f32(e: Entry, x: u64) -> bool
-    ensures { result ≡ matches (value_of (kind_of 9) x) (value_of (kind_of 9) (f64F32 e).key) }
+    ensures { result ≡ matches (value_of (kind_of 9) x) (value_of (kind_of 9) (f64_f32 e).key) }
 {
     typed_keys::key_matches_f64(e.key, x)
 }
 
 // An entry's target.
 fn found_f64_f32(e: Entry) -> Lookup
-    ensures { result ≡ Lookup.Found (f64F32 e).target }
+    ensures { result ≡ Lookup.Found (f64_f32 e).target }
 {
     Lookup::Found(typed_values::bits_f32(e.target))
 }
 
 // The target of the first entry that matches.
 pub fn lookup_f64_f32(entries: &[Entry], x: u64) -> Lookup
-    ensures { result ≡ lookup_of (kind_of 9) (value_of (kind_of 9) x) (map f64F32 entries.now) }
+    ensures { result ≡ lookup_of (kind_of 9) (value_of (kind_of 9) x) (map f64_f32 entries.now) }
 {
     let mut i = 0;
     while i < entries.len() {
@@ -177,21 +177,21 @@ pub fn lookup_f64_f32(entries: &[Entry], x: u64) -> Lookup
 
 // Whether an entry matches the i64 of the pattern x.
 fn matches_i64_f32(e: EntryI64F32, x: u64) -> bool
-    ensures { result ≡ matches (value_of (kind_of 3) x) (value_of (kind_of 3) (i64F32 e).key) }
+    ensures { result ≡ matches (value_of (kind_of 3) x) (value_of (kind_of 3) (i64_f32 e).key) }
 {
     typed_keys::key_matches_i64(e.key, x)
 }
 
 // An entry's target.
 fn found_i64_f32(e: EntryI64F32) -> Lookup
-    ensures { result ≡ Lookup.Found (i64F32 e).target }
+    ensures { result ≡ Lookup.Found (i64_f32 e).target }
 {
     Lookup::Found(typed_values::bits_f32(e.target))
 }
 
 // The target of the first entry that matches.
 pub fn lookup_i64_f32(entries: &[EntryI64F32], x: u64) -> Lookup
-    ensures { result ≡ lookup_of (kind_of 3) (value_of (kind_of 3) x) (map i64F32 entries.now) }
+    ensures { result ≡ lookup_of (kind_of 3) (value_of (kind_of 3) x) (map i64_f32 entries.now) }
 {
     let mut i = 0;
     while i < entries.len() {

@@ -11,7 +11,7 @@ use mir.Syntax.{w32}
 use mir.ValLaws.{to_z-of_z}
 use borrow.Author.Tests.{lt-ltb, le-ltb}
 use Rattle.patterns.specs.Pattern.{low_bits}
-use Rattle.typed_patterns.specs.Values.{i32Of}
+use Rattle.typed_patterns.specs.Values.{i32_of}
 
 less_from_minus_one : (m : ℕ) → negsuc 0 -ℤ pos m ≡ negsuc m
 less_from_minus_one zero = refl
@@ -21,7 +21,7 @@ module _ (b : ℕ) where
   abbrev n : ℕ
   n = b % 2 ^ 32
 
-  pub upper : n < 2 ^ 31 → to_z w32 n ≡ i32Of b
+  pub upper : n < 2 ^ 31 → to_z w32 n ≡ i32_of b
   upper h = to_z-of_z w32 (pos n) (record { sfits = h }) ∙ sym (ap (λ (t : Bool). cond t (pos n) (negsuc (2 ^ 32 - 1 - n))) (lt-ltb n (2 ^ 31) h))
 
   module _ (h : 2 ^ 31 ≤ n) where
@@ -34,11 +34,11 @@ module _ (b : ℕ) where
     pub lower_fits : SFits w32 (negsuc 0 -ℤ to_z w32 (2 ^ 32 - 1 - n))
     lower_fits = subst (SFits w32) (sym formed) (record { sfits = small })
 
-    pub lower : to_z w32 (of_z w32 (negsuc 0 -ℤ to_z w32 (2 ^ 32 - 1 - n))) ≡ i32Of b
+    pub lower : to_z w32 (of_z w32 (negsuc 0 -ℤ to_z w32 (2 ^ 32 - 1 - n))) ≡ i32_of b
     lower = ap (λ (z : ℤ). to_z w32 (of_z w32 z)) formed ∙ to_z-of_z w32 (negsuc (2 ^ 32 - 1 - n)) (record { sfits = small }) ∙ sym (ap (λ (t : Bool). cond t (pos n) (negsuc (2 ^ 32 - 1 - n))) (le-ltb n (2 ^ 31) h))
 
   -- and its bits are those
-  pub again : low_bits 32 (i32Of b) ≡ n
+  pub again : low_bits 32 (i32_of b) ≡ n
   again = go (ltb n (2 ^ 31))
     where
       l : n < 2 ^ 32

@@ -3,14 +3,14 @@ use Rattle.std.specs.Prelude.{cond, ℕ, ◌-◌, ◌%◌, ◌^◌, ltb, Float, 
 use Rattle.std.specs.Float.{binary32, binary64}
 use Rattle.std.specs.Float.Ieee.{of_bits}
 
-abbrev pub u8Of : ℕ → ℕ
-u8Of b = b % 2 ^ 8
+abbrev pub u8_of : ℕ → ℕ
+u8_of b = b % 2 ^ 8
 
-abbrev pub i32Of : ℕ → ℤ
-i32Of b = let low = b % 2 ^ 32 in cond (ltb low (2 ^ 31)) (pos low) (negsuc (2 ^ 32 - 1 - low))
+abbrev pub i32_of : ℕ → ℤ
+i32_of b = let low = b % 2 ^ 32 in cond (ltb low (2 ^ 31)) (pos low) (negsuc (2 ^ 32 - 1 - low))
 
-abbrev pub f32Of : ℕ → Float
-f32Of b = of_bits binary32 (b % 2 ^ 32)
+abbrev pub f32_of : ℕ → Float
+f32_of b = of_bits binary32 (b % 2 ^ 32)
 
-abbrev pub f64Of : ℕ → Float
-f64Of b = of_bits binary64 (b % 2 ^ 64)
+abbrev pub f64_of : ℕ → Float
+f64_of b = of_bits binary64 (b % 2 ^ 64)

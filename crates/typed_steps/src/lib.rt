@@ -2,8 +2,8 @@
 #![tactic(auto)]
 
 ghost use Rattle.std.specs.Prelude.{◌≡◌, map, ◌<◌, ◌^◌, length};
-ghost use Rattle.typed_values.specs.Bits.{f64Bits, f32Bits};
-ghost use Rattle.typed_patterns.specs.Values.{u8Of, i32Of};
+ghost use Rattle.typed_values.specs.Bits.{f64_bits, f32_bits};
+ghost use Rattle.typed_patterns.specs.Values.{u8_of, i32_of};
 ghost use Rattle.tallies.specs.Tally.{Countable};
 ghost use Rattle.typed_steps.specs.Loop.{outcome_for, next_state, stored_in, TalliedBy};
 
@@ -17,7 +17,7 @@ use typed_states::State;
 // One element: stored, and the state at the next; or refused.
 pub fn step_f64_u8(src: &[f64], dst: &mut [u8], s: State, f: Lookup, tally: &mut Tally) -> State
     requires { (s.x < 2 ^ 64) × (s.at < length src.now) × (s.at < length dst.old) × Countable tally.old }
-    ensures { (result ≡ next_state (outcome_for 9 4 s f) (map f64Bits src.now) s) × (dst.new ≡ stored_in u8Of (outcome_for 9 4 s f) dst.old s.at) × TalliedBy (outcome_for 9 4 s f) tally.old tally.new }
+    ensures { (result ≡ next_state (outcome_for 9 4 s f) (map f64_bits src.now) s) × (dst.new ≡ stored_in u8_of (outcome_for 9 4 s f) dst.old s.at) × TalliedBy (outcome_for 9 4 s f) tally.old tally.new }
 {
     let at = s.at;
     let rounding = s.rounding;
@@ -43,7 +43,7 @@ pub fn step_f64_u8(src: &[f64], dst: &mut [u8], s: State, f: Lookup, tally: &mut
 // One element: stored, and the state at the next; or refused.
 pub fn step_f64_i32(src: &[f64], dst: &mut [i32], s: State, f: Lookup, tally: &mut Tally) -> State
     requires { (s.x < 2 ^ 64) × (s.at < length src.now) × (s.at < length dst.old) × Countable tally.old }
-    ensures { (result ≡ next_state (outcome_for 9 2 s f) (map f64Bits src.now) s) × (dst.new ≡ stored_in i32Of (outcome_for 9 2 s f) dst.old s.at) × TalliedBy (outcome_for 9 2 s f) tally.old tally.new }
+    ensures { (result ≡ next_state (outcome_for 9 2 s f) (map f64_bits src.now) s) × (dst.new ≡ stored_in i32_of (outcome_for 9 2 s f) dst.old s.at) × TalliedBy (outcome_for 9 2 s f) tally.old tally.new }
 {
     let at = s.at;
     let rounding = s.rounding;
@@ -69,7 +69,7 @@ pub fn step_f64_i32(src: &[f64], dst: &mut [i32], s: State, f: Lookup, tally: &m
 // One element: stored, and the state at the next; or refused.
 pub fn step_f32_u8(src: &[f32], dst: &mut [u8], s: State, f: Lookup, tally: &mut Tally) -> State
     requires { (s.x < 2 ^ 32) × (s.at < length src.now) × (s.at < length dst.old) × Countable tally.old }
-    ensures { (result ≡ next_state (outcome_for 8 4 s f) (map f32Bits src.now) s) × (dst.new ≡ stored_in u8Of (outcome_for 8 4 s f) dst.old s.at) × TalliedBy (outcome_for 8 4 s f) tally.old tally.new }
+    ensures { (result ≡ next_state (outcome_for 8 4 s f) (map f32_bits src.now) s) × (dst.new ≡ stored_in u8_of (outcome_for 8 4 s f) dst.old s.at) × TalliedBy (outcome_for 8 4 s f) tally.old tally.new }
 {
     let at = s.at;
     let rounding = s.rounding;

@@ -11,7 +11,7 @@ use Rattle.patterns.proofs.Ieee.{Agrees, kind_for, agree}
 use Rattle.patterns.specs.Kind.{f32, f64}
 use Rattle.patterns.specs.Pattern.{nan_pattern}
 use Rattle.patterns.specs.Value.{Value, nan, value_of}
-use Rattle.typed_values.specs.Bits.{float_bits, f32Bits}
+use Rattle.typed_values.specs.Bits.{float_bits, f32_bits}
 use Rattle.typed_values.proofs.Patterns.{bits_below, bits_back}
 
 -- ---- a pattern's value and the language's float are a NaN alike
@@ -34,7 +34,7 @@ quiet f x e = sym (bits_back f x) ∙ ap (to_bits f) (nan_agrees (of_bits f (flo
 abbrev pub Back : ℕ → Type 0
 Back b = (to_bits binary32 (of_bits binary32 b) ≡ b) × (b < 2 ^ 32)
 
-pub bits_are_back : (x : Float) → Back (f32Bits x)
+pub bits_are_back : (x : Float) → Back (f32_bits x)
 bits_are_back x = (bits_back binary32 x, bits_below binary32 x)
 
 -- the quiet NaN of f64 is narrowed to that of f32

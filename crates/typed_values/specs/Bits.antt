@@ -9,17 +9,17 @@ use Rattle.patterns.specs.Pattern.{low_bits}
 abbrev pub float_bits : Format → Float → ℕ
 float_bits f x = cond (fits f x) (to_bits f x) 0
 
-abbrev pub f64Bits : Float → ℕ
-f64Bits = float_bits binary64
+abbrev pub f64_bits : Float → ℕ
+f64_bits = float_bits binary64
 
-abbrev pub f32Bits : Float → ℕ
-f32Bits = float_bits binary32
+abbrev pub f32_bits : Float → ℕ
+f32_bits = float_bits binary32
 
-abbrev pub i64Bits : ℤ → ℕ
-i64Bits = low_bits 64
+abbrev pub i64_bits : ℤ → ℕ
+i64_bits = low_bits 64
 
-abbrev pub i32Bits : ℤ → ℕ
-i32Bits = low_bits 32
+abbrev pub i32_bits : ℤ → ℕ
+i32_bits = low_bits 32
 
-abbrev pub u8Bits : ℕ → ℕ
-u8Bits b = b % 2 ^ 8
+abbrev pub u8_bits : ℕ → ℕ
+u8_bits b = b % 2 ^ 8

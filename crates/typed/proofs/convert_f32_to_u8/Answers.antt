@@ -4,7 +4,7 @@ use native.Mathlib.Nat.{mod-eq_of_lt}
 use Rattle.patterns.specs.Value.{value_of}
 use Rattle.kinds.specs.Table.{kind_of}
 use Rattle.cast_spec.specs.Element.{lookup_of}
-use Rattle.typed_entries.specs.Entries.{f32U8}
+use Rattle.typed_entries.specs.Entries.{f32_u8}
 use Rattle.typed_states.specs.declared.State.{State}
 use Rattle.typed.proofs.Pairs.{f32_to_u8}
 use Rattle.typed.proofs.Turns.{Inv, starts, asks, turns}
@@ -29,4 +29,4 @@ loop-s-preserved c =
     let f = c.lookup_f32_u8-f in
     let t = c.step_f32_u8-s in
     let within = (asks f32_to_u8 a.src.now a.entries.now a.rounding a.range a.dst.now l.s l.dst l.tally l.invariant c.loop-s-test.true (omega arith)).0 in
-    (turns f32_to_u8 a.src.now a.entries.now a.rounding a.range a.dst.now l.s l.dst l.tally l.invariant c.loop-s-test.true f.result (f.ensures ∙ ap (λ (x : ℕ). lookup_of (kind_of 8) (value_of (kind_of 8) x) (map f32U8 a.entries.now)) (mod-eq_of_lt within)) t.result t.new.dst t.new.tally t.ensures).0
+    (turns f32_to_u8 a.src.now a.entries.now a.rounding a.range a.dst.now l.s l.dst l.tally l.invariant c.loop-s-test.true f.result (f.ensures ∙ ap (λ (x : ℕ). lookup_of (kind_of 8) (value_of (kind_of 8) x) (map f32_u8 a.entries.now)) (mod-eq_of_lt within)) t.result t.new.dst t.new.tally t.ensures).0

@@ -3,12 +3,12 @@ use Rattle.std.proofs.Common.{length, ◌-◌}
 use Rattle.std.proofs.Common.{◌%◌, ◌^◌}
 use Rattle.patterns.specs.Value.{value_of}
 use Rattle.kinds.specs.Table.{kind_of}
-use Rattle.typed_entries.specs.Entries.{f32U8}
+use Rattle.typed_entries.specs.Entries.{f32_u8}
 use Rattle.typed_entries.proofs.Lookups.{Same}
 use Rattle.typed_entries.proofs.lookup_f32_u8.Given as goal
 
 abbrev pub invariant-loop-i : goal.invariant-loop-i
-invariant-loop-i l = Same f32U8 (kind_of 8) (value_of (kind_of 8) (l.x % 2 ^ 32)) l.entries l.i
+invariant-loop-i l = Same f32_u8 (kind_of 8) (value_of (kind_of 8) (l.x % 2 ^ 32)) l.entries l.i
 
 abbrev pub decreases-loop-i : goal.decreases-loop-i
 decreases-loop-i l = length l.entries - l.i

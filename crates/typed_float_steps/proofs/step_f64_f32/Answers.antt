@@ -1,8 +1,8 @@
 -- The element is stored and counted, or refused.
 use Rattle.std.proofs.Common.{map, ◌∙◌}
 use Rattle.patterns.specs.Kind.{f64}
-use Rattle.typed_values.specs.Bits.{f64Bits}
-use Rattle.typed_patterns.specs.Values.{f32Of}
+use Rattle.typed_values.specs.Bits.{f64_bits}
+use Rattle.typed_patterns.specs.Values.{f32_of}
 use Rattle.kinds.proofs.Constants.{f32_row}
 use Rattle.floats.proofs.Values.{f64_formed, read_canonical}
 use Rattle.steps.proofs.Steps.{f64_to_float_steps}
@@ -19,7 +19,7 @@ returns-in-Pattern c =
     let x = c.read_f64-x in
     let t = c.step_float_to_float-fit in
     let p = c.in-Pattern in
-    stored f32Of (map f64Bits a.src.now) a.dst.now a.tally.now 9 8 a.s a.f t.result
+    stored f32_of (map f64_bits a.src.now) a.dst.now a.tally.now 9 8 a.s a.f t.result
     (t.ensures ∙ f64_to_float_steps 24 8 925 a.s.x c.requires.0 x.result x.ensures a.f a.s.rounding a.s.range)
     c.state_f64.result p.pattern p.fared p.is c.f32_of.result c.f32_of.ensures _ c.count.ensures c.state_f64.ensures
 
@@ -31,6 +31,6 @@ returns c =
     let a = c.args in
     let x = c.read_f64-x in
     let t = c.step_float_to_float-fit in
-    refused f32Of (map f64Bits a.src.now) a.dst.now a.tally.now 9 8 a.s a.f t.result
+    refused f32_of (map f64_bits a.src.now) a.dst.now a.tally.now 9 8 a.s a.f t.result
     (t.ensures ∙ f64_to_float_steps 24 8 925 a.s.x c.requires.0 x.result x.ensures a.f a.s.rounding a.s.range)
     c.refuse.result (no_pattern _ c.in_default.not-Pattern) c.outcome-o.result c.outcome-o.ensures c.refuse.ensures

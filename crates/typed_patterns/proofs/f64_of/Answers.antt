@@ -2,12 +2,12 @@
 use Rattle.std.proofs.Common.{◌≡◌, ℕ, sym, ap, ◌∙◌, Fits, w64}
 use native.Mathlib.Nat.{mod-eq_of_lt}
 use lib.Ieee.{binary64, div, of_bits}
-use Rattle.typed_patterns.specs.Values.{f64Of}
+use Rattle.typed_patterns.specs.Values.{f64_of}
 use Rattle.typed_patterns.proofs.NanPatterns.{nan_pattern_lem, no_nan_pattern}
 use Rattle.typed_patterns.proofs.f64_of.Goals as goal
 
 -- a u64 is its own lowest 64 bits
-all_bits : {b : ℕ} → Fits w64 b → of_bits binary64 b ≡ f64Of b
+all_bits : {b : ℕ} → Fits w64 b → of_bits binary64 b ≡ f64_of b
 all_bits h = ap (of_bits binary64) (sym (mod-eq_of_lt h.fits))
 
 pub returns-then-b-gt9218868437227405312 : goal.returns-then-b-gt9218868437227405312

@@ -1,8 +1,8 @@
 -- The element is stored and counted, or refused.
 use Rattle.std.proofs.Common.{map, ◌∙◌, false}
 use Rattle.patterns.specs.Kind.{f32}
-use Rattle.typed_values.specs.Bits.{f32Bits}
-use Rattle.typed_patterns.specs.Values.{u8Of}
+use Rattle.typed_values.specs.Bits.{f32_bits}
+use Rattle.typed_patterns.specs.Values.{u8_of}
 use Rattle.kinds.proofs.Constants.{u8_row}
 use Rattle.floats.proofs.Values.{f32_formed, read_canonical}
 use Rattle.steps.proofs.Steps.{float_to_integer_steps}
@@ -19,7 +19,7 @@ returns-in-Pattern c =
     let x = c.read_f32-x in
     let t = c.step_float_to_int-fit in
     let p = c.in-Pattern in
-    stored u8Of (map f32Bits a.src.now) a.dst.now a.tally.now 8 4 a.s a.f t.result
+    stored u8_of (map f32_bits a.src.now) a.dst.now a.tally.now 8 4 a.s a.f t.result
     (t.ensures ∙ float_to_integer_steps 24 8 925 a.s.x (f32_formed a.s.x) x.result x.ensures a.f false 8 a.s.rounding a.s.range)
     c.state_f32.result p.pattern p.fared p.is c.u8_of.result c.u8_of.ensures _ c.count.ensures c.state_f32.ensures
 
@@ -31,6 +31,6 @@ returns c =
     let a = c.args in
     let x = c.read_f32-x in
     let t = c.step_float_to_int-fit in
-    refused u8Of (map f32Bits a.src.now) a.dst.now a.tally.now 8 4 a.s a.f t.result
+    refused u8_of (map f32_bits a.src.now) a.dst.now a.tally.now 8 4 a.s a.f t.result
     (t.ensures ∙ float_to_integer_steps 24 8 925 a.s.x (f32_formed a.s.x) x.result x.ensures a.f false 8 a.s.rounding a.s.range)
     c.refuse.result (no_pattern _ c.in_default.not-Pattern) c.outcome-o.result c.outcome-o.ensures c.refuse.ensures

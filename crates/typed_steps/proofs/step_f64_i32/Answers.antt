@@ -1,8 +1,8 @@
 -- The element is stored and counted, or refused.
 use Rattle.std.proofs.Common.{map, ◌∙◌, true, rules}
 use Rattle.patterns.specs.Kind.{f64}
-use Rattle.typed_values.specs.Bits.{f64Bits}
-use Rattle.typed_patterns.specs.Values.{i32Of}
+use Rattle.typed_values.specs.Bits.{f64_bits}
+use Rattle.typed_patterns.specs.Values.{i32_of}
 use Rattle.kinds.proofs.Constants.{i32_row}
 use Rattle.floats.proofs.Values.{f64_formed, read_canonical}
 use Rattle.steps.proofs.Steps.{float_to_integer_steps}
@@ -19,7 +19,7 @@ returns-in-Pattern c =
     let x = c.read_f64-x in
     let t = c.step_float_to_int-fit in
     let p = c.in-Pattern in
-    stored i32Of (map f64Bits a.src.now) a.dst.now a.tally.now 9 2 a.s a.f t.result
+    stored i32_of (map f64_bits a.src.now) a.dst.now a.tally.now 9 2 a.s a.f t.result
     (t.ensures ∙ float_to_integer_steps 53 11 0 a.s.x (f64_formed a.s.x c.requires.0) x.result x.ensures a.f true 32 a.s.rounding a.s.range)
     c.state_f64.result p.pattern p.fared p.is _ ((search rules) ∙ c.i32_of.ensures) _ c.count.ensures c.state_f64.ensures
 
@@ -31,6 +31,6 @@ returns c =
     let a = c.args in
     let x = c.read_f64-x in
     let t = c.step_float_to_int-fit in
-    refused i32Of (map f64Bits a.src.now) a.dst.now a.tally.now 9 2 a.s a.f t.result
+    refused i32_of (map f64_bits a.src.now) a.dst.now a.tally.now 9 2 a.s a.f t.result
     (t.ensures ∙ float_to_integer_steps 53 11 0 a.s.x (f64_formed a.s.x c.requires.0) x.result x.ensures a.f true 32 a.s.rounding a.s.range)
     c.refuse.result (no_pattern _ c.in_default.not-Pattern) c.outcome-o.result c.outcome-o.ensures c.refuse.ensures
