@@ -1,7 +1,7 @@
 /*
  * polskrea: chunks of numbers cast between eleven number kinds.
  *
- * Link target/staticlib/libpolskrea.a, which `rt staticlib polskrea` makes (x86-64 Linux; it needs no other library, calls nothing, keeps
+ * Link target/staticlib/libpolskrea.a, which tools/libraries makes (x86-64 Linux; it needs no other library, calls nothing, keeps
  * no state, allocates nothing, and may be called from several threads at once).
  *
  * What is said below of the answer and of the destination is proved of the library's code, for every input that keeps the caller's side:
@@ -128,7 +128,7 @@ uint8_t polskrea_convert(const uint8_t *src, size_t src_len,
  * written. It is never more than the bytes that would be written, and it is 0 right after polskrea_convert with the same arguments, even where
  * that was refused: crates/cast_spec/proofs/Previews.antt proves these two.
  *
- * It stands in libpolskrea_preview.a, which `rt staticlib polskrea_preview` makes; what is said above of libpolskrea.a holds of it too.
+ * It stands in libpolskrea_preview.a, which tools/libraries makes; what is said above of libpolskrea.a holds of it too.
  *
  * The caller's side is that of polskrea_convert, where `dst` is for reading alone and may overlap `src`, `keys` and `targets`, and where
  * `changed` is a sixth pointer: not NULL, aligned for its type, good for reading and writing. Only `answer` and `changed` must overlap nothing

@@ -1,4 +1,4 @@
-//! Tells the linker where libpolskrea.a, libpolskrea_preview.a and libpolskrea_typed.a stand: in POLSKREA_LIB_DIR, or where `rt staticlib` puts them.
+//! Tells the linker where libpolskrea.a, libpolskrea_preview.a and libpolskrea_typed.a stand: in POLSKREA_LIB_DIR, or where tools/libraries puts them.
 use std::env;
 use std::path::PathBuf;
 

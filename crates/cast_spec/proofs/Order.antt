@@ -16,7 +16,6 @@ use Rattle.cast_spec.specs.Chunk.{Call}
 use Rattle.cast_spec.specs.Demand3.{Taken, Pick, RefusedBy, Kept, Handled, Rounded, Wraps, Wrapped, ◌≤ᵉ◌, Compared}
 use Rattle.answers.specs.Answer.{names_position}
 use Rattle.answers.specs.declared.Answer.{Answer}
-use Rattle.grid.specs.Round.{pick}
 use Rattle.patterns.proofs.AnyKind.{high_zero, low_zero}
 
 -- ---- where a result that is neither refused nor wrapped lies
