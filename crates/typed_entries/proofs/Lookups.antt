@@ -99,7 +99,7 @@ module _ (P : EntryType) where
   of = P.of
 
   -- what a reference to an entry holds can be had twice
-  row_laws : RowLaws R
+  pub row_laws : RowLaws R
   row_laws = Recorded-row_laws (Struct (shape D)) D.D D.to D.to_one (Struct-row_laws (shape D) (LL.copy_row_laws D.parts P.copies))
 
   -- an entry in memory, and behind a reference
