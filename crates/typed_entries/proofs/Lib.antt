@@ -1,1 +1,2 @@
+pub mod EntryTypes
 pub mod Lookups

@@ -8,14 +8,14 @@ use Rattle.typed.proofs.convert_i64_to_f32.Goals as goal
 pub loop-s-init : goal.loop-s-init
 loop-s-init c =
     let a = c.args in
-    subst (λ (s : State). Inv i64_to_f32 a.src.now a.entries.now a.rounding a.range a.dst.now s a.dst.now c.no_tally-tally.result) (sym c.start_i64-s.ensures)
-    (starts i64_to_f32 a.src.now a.entries.now a.rounding a.range a.dst.now c.no_tally-tally.result c.no_tally-tally.ensures)
+    subst (λ (s : State). Inv i64_to_f32.elements a.src.now a.entries.now a.rounding a.range a.dst.now s a.dst.now c.no_tally-tally.result) (sym c.start_i64-s.ensures)
+    (starts i64_to_f32.elements a.src.now a.entries.now a.rounding a.range a.dst.now c.no_tally-tally.result c.no_tally-tally.ensures)
 
 pub step_i64_f32-s-requires : goal.step_i64_f32-s-requires
 step_i64_f32-s-requires c =
     let a = c.args in
     let l = c.loop-s in
-    asks i64_to_f32 a.src.now a.entries.now a.rounding a.range a.dst.now l.s l.dst l.tally l.invariant c.loop-s-test.true (omega arith)
+    asks i64_to_f32.elements a.src.now a.entries.now a.rounding a.range a.dst.now l.s l.dst l.tally l.invariant c.loop-s-test.true (omega arith)
 
 pub loop-s-preserved : goal.loop-s-preserved
 loop-s-preserved c =
@@ -23,4 +23,4 @@ loop-s-preserved c =
     let l = c.loop-s in
     let f = c.lookup_i64_f32-f in
     let t = c.step_i64_f32-s in
-    (turns i64_to_f32 a.src.now a.entries.now a.rounding a.range a.dst.now l.s l.dst l.tally l.invariant c.loop-s-test.true f.result f.ensures t.result t.new.dst t.new.tally t.ensures).0
+    (turns i64_to_f32.elements a.src.now a.entries.now a.rounding a.range a.dst.now l.s l.dst l.tally l.invariant c.loop-s-test.true f.result f.ensures t.result t.new.dst t.new.tally t.ensures).0

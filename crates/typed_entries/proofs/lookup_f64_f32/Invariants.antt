@@ -1,4 +1,5 @@
 -- What is to be found from i on is what is to be found from the start.
+pub mod ByHand
 use Rattle.std.proofs.Common.{length, ◌-◌}
 use Rattle.patterns.specs.Value.{value_of}
 use Rattle.kinds.specs.Table.{kind_of}
