@@ -70,6 +70,6 @@ next_up p w b = up_from p w b (b % 2 ^ (w + p - 1))
 unfoldable pub opposite : ℕ → ℕ → ℕ → ℕ
 opposite p w b = with_sign (w + p) (not (leb (2 ^ (w + p - 1)) b)) (b % 2 ^ (w + p - 1))
 
--- IEEE 754: "next_down(x) is -nextUp(-x)"
+-- IEEE 754: "nextDown(x) is -nextUp(-x)"
 unfoldable pub next_down : ℕ → ℕ → ℕ → ℕ
 next_down p w b = opposite p w (next_up p w (opposite p w b))

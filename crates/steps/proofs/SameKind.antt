@@ -1,4 +1,4 @@
--- An element that goes to its own kind is its pattern: "Widening and same_kind float casts are exact; infinities pass".
+-- An element that goes to its own kind is its pattern: "Widening and same-kind float casts are exact; infinities pass".
 use mathlib.Core.Path.{◌≡◌, refl, sym, ap, ap₂, subst, ◌∙◌}
 use mathlib.Core.Bool.{Bool, cond}
 use mathlib.Core.List.{[]}
