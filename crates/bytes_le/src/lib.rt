@@ -1,51 +1,21 @@
-// Numbers as bytes, lowest first, read straight from a chunk's own bytes. `get_le` is of any width to 8; with the width fixed, in a function of its own,
-// the compiler makes one load of the loop.
+// Numbers as bytes, lowest first, read straight from a chunk's own bytes. `get_le` is of any width to 8; with the width a
+// constant, the compiler makes one load of the loop.
 #![tactic(auto)]
 
 ghost use Rattle.std.specs.Prelude.{◌+◌, ◌*◌, ◌≤◌, length};
 ghost use Rattle.bytes_le.specs.Bytes.{Place};
 ghost use Rattle.bytes_le.specs.Fetch.{Fetched};
 
-// The number of the width bytes of s from `at` on: each byte times 256 to its place among them.
-fn get_le(s: &[u8], at: usize, width: usize) -> u64
-    requires { (width ≤ 8) × (at + width ≤ length s.now) }
-    ensures { Fetched s.now at width result }
+// The number of the W bytes of s from `at` on: each byte times 256 to its place among them.
+fn get_le<const W: usize>(s: &[u8], at: usize) -> u64
+    requires { (W ≤ 8) × (at + W ≤ length s.now) }
+    ensures { Fetched s.now at W result }
 {
     let mut v = 0;
-    let mut k = 0;
-    while k < width {
+    for k in 0..W {
         v += (s[at + k] as u64) << (8 * k);
-        k += 1;
     }
     v
-}
-
-fn get1(s: &[u8], at: usize) -> u64
-    requires { at + 1 ≤ length s.now }
-    ensures { Fetched s.now at 1 result }
-{
-    get_le(s, at, 1)
-}
-
-fn get2(s: &[u8], at: usize) -> u64
-    requires { at + 2 ≤ length s.now }
-    ensures { Fetched s.now at 2 result }
-{
-    get_le(s, at, 2)
-}
-
-fn get4(s: &[u8], at: usize) -> u64
-    requires { at + 4 ≤ length s.now }
-    ensures { Fetched s.now at 4 result }
-{
-    get_le(s, at, 4)
-}
-
-fn get8(s: &[u8], at: usize) -> u64
-    requires { at + 8 ≤ length s.now }
-    ensures { Fetched s.now at 8 result }
-{
-    get_le(s, at, 8)
 }
 
 // The number of the width bytes of s from `at` on, of a kind's width.
@@ -54,10 +24,10 @@ pub fn read_le(s: &[u8], at: usize, width: usize) -> u64
     ensures { Fetched s.now at width result }
 {
     match width {
-        1 => get1(s, at),
-        2 => get2(s, at),
-        4 => get4(s, at),
-        _ => get8(s, at),
+        1 => get_le::<1>(s, at),
+        2 => get_le::<2>(s, at),
+        4 => get_le::<4>(s, at),
+        _ => get_le::<8>(s, at),
     }
 }
 

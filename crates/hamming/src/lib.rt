@@ -12,13 +12,11 @@ pub fn distance_le(s: &[u8], at: usize, width: usize, v: u64) -> usize
 {
     let mut rest = v;
     let mut differing = 0;
-    let mut k = 0;
-    while k < width {
+    for k in 0..width {
         if s[at + k] as u64 != rest % 256 {
             differing += 1;
         }
         rest /= 256;
-        k += 1;
     }
     differing
 }

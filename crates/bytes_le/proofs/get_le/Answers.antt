@@ -4,14 +4,14 @@ use Rattle.bytes_le.proofs.Fetches.{all_summed, one_more_summed, sum_fits}
 use Rattle.bytes_le.proofs.get_le.Goals as goal
 
 pub overflow_add-v-in-loop-k : goal.overflow_add-v-in-loop-k
-overflow_add-v-in-loop-k c =
+overflow_add-v-in-loop-k g c =
     let a = c.args in
-    record { fits = sum_fits a.s.now a.at a.width c.loop-k.k c.loop-k.v c.loop-k.invariant c.loop-k-test.true c.requires.0 c.requires.1 (c.type_inv.s (a.at + c.loop-k.k)).fits }
+    record { fits = sum_fits a.s.now a.at g.row.W c.loop-k.k c.loop-k.v c.loop-k.invariant c.loop-k-test.true c.requires.0 c.requires.1 (c.type_inv.s (a.at + c.loop-k.k)).fits }
 
 pub loop-k-preserved : goal.loop-k-preserved
-loop-k-preserved c =
+loop-k-preserved g c =
     let a = c.args in
-    one_more_summed a.s.now a.at a.width c.loop-k.k c.loop-k.v c.loop-k.invariant c.loop-k-test.true c.requires.0 c.requires.1 (c.type_inv.s (a.at + c.loop-k.k)).fits
+    one_more_summed a.s.now a.at g.row.W c.loop-k.k c.loop-k.v c.loop-k.invariant c.loop-k-test.true c.requires.0 c.requires.1 (c.type_inv.s (a.at + c.loop-k.k)).fits
 
 pub returns : goal.returns
-returns c = let a = c.args in all_summed a.s.now a.at a.width c.loop-k.k c.loop-k.v c.loop-k.invariant c.loop-k-test.false c.requires.1
+returns g c = let a = c.args in all_summed a.s.now a.at g.row.W c.loop-k.k c.loop-k.v c.loop-k.invariant c.loop-k-test.false c.requires.1
