@@ -2,7 +2,6 @@
 use mathlib.Core.List.{List}
 use mathlib.Core.Path.{◌≡◌, ap, ap₂, ◌∙◌, subst}
 use Prim.Native.Nat.{ℕ}
-use Rattle.answers.specs.declared.Answer.{Answer}
 use Rattle.counts.specs.declared.Counts.{Counts}
 use Rattle.answers.specs.declared.Preview.{Preview}
 use Rattle.answers.specs.declared.Reply.{Reply}
@@ -14,6 +13,7 @@ use Rattle.cast_spec.specs.Demand3.{Demand3}
 use Rattle.cast_spec.specs.Contract.{Contract}
 use Rattle.cast_spec.specs.Preview.{preview_of, Previewed}
 use Rattle.answer_fields.specs.Returned.{fields_of, Returned, ReturnedPreview}
+use Rattle.answers.specs.Outcome.{Answer}
 
 pub exported : (I : Inputs) (r : Reply) (n : ℕ) (fields d : List ℕ) → Contract I r d → n ≡ number_of r.answer → fields ≡ fields_of r.answer r.counts → Returned I n fields d
 exported I r n fields d c e f = record {

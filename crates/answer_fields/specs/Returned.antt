@@ -1,13 +1,13 @@
 -- To be believed: what an exported call returns: the papers' number, the values of the answer and the counts as fields of 64 bits, and the destination.
 use Rattle.std.specs.Prelude.{◌≡◌, List, [], ◌∷◌, ◌++◌, ℕ, length}
 use Rattle.answers.specs.Answer.{number_of, values_of}
-use Rattle.answers.specs.declared.Answer.{Answer}
 use Rattle.counts.specs.declared.Counts.{Counts}
 use Rattle.cast_spec.specs.Chunk.{Inputs, call_of, answer_of, counts_of, destination_of, result_at}
 use Rattle.cast_spec.specs.Counted.{Counted, HowMany}
 use Rattle.cast_spec.specs.Demand1.{Demand1}
 use Rattle.cast_spec.specs.Demand3.{Demand3}
 use Rattle.cast_spec.specs.Preview.{preview_of, Changes}
+use Rattle.answers.specs.Outcome.{Answer}
 
 -- the column "returned" of the table "What the chunk call answers", each value in a place of its own, 0 where an answer has no such value
 abbrev pub value_fields : Answer → List ℕ

@@ -5,7 +5,7 @@ ghost use Rattle.std.specs.Prelude.{◌≡◌};
 ghost use Rattle.answers.specs.Answer.{number_of};
 ghost use Rattle.answer_fields.specs.Returned.{value_fields, fields_of};
 
-use answers::{Answer, Reply};
+use answers::{Answer, Refusal, Reply};
 use counts::Counts;
 
 // The values of an answer: both counts of elements; position, value, lowest and highest of a refused one; 0 where the answer has no such value.
@@ -20,25 +20,23 @@ fn values(a: Answer) -> Values
     ensures { result ≡ value_fields a }
 {
     match a {
-        Answer::Converted => [0, 0, 0, 0, 0, 0],
-        Answer::UnknownCode => [0, 0, 0, 0, 0, 0],
-        Answer::BrokenMap => [0, 0, 0, 0, 0, 0],
-        Answer::BrokenElement => [0, 0, 0, 0, 0, 0],
-        Answer::LengthMismatch { src_len, dst_len } => [src_len as u64, dst_len as u64, 0, 0, 0, 0],
-        Answer::NanOrInf { position, value } => [0, 0, position as u64, value, 0, 0],
-        Answer::OutOfRange {
+        Err(Refusal::LengthMismatch { src_len, dst_len }) => {
+            [src_len as u64, dst_len as u64, 0, 0, 0, 0]
+        }
+        Err(Refusal::NanOrInf { position, value }) => [0, 0, position as u64, value, 0, 0],
+        Err(Refusal::OutOfRange {
             position,
             value,
             lo,
             hi,
-        } => [0, 0, position as u64, value, typed_values::bits_i64(lo), hi],
-        Answer::FloatOutOfRange {
+        }) => [0, 0, position as u64, value, typed_values::bits_i64(lo), hi],
+        Err(Refusal::FloatOutOfRange {
             position,
             value,
             lo,
             hi,
-        } => [0, 0, position as u64, value, lo, hi],
-        Answer::BarredWrap => [0, 0, 0, 0, 0, 0],
+        }) => [0, 0, position as u64, value, lo, hi],
+        _ => [0; 6],
     }
 }
 

@@ -4,7 +4,7 @@
 ghost use Rattle.std.specs.Prelude.{◌≡◌};
 ghost use Rattle.answers.specs.Answer.{number_of, position_of, names_position};
 
-use answers::Answer;
+use answers::{Answer, Refusal};
 
 // The refusals that name the position of an element, from the first to the last.
 const FIRST_AT_ELEMENT: usize = 5;
@@ -16,31 +16,15 @@ pub fn number(a: Answer) -> u8
     ensures { result ≡ number_of a }
 {
     match a {
-        Answer::Converted => 0,
-        Answer::UnknownCode => 1,
-        Answer::BrokenMap => 2,
-        Answer::BrokenElement => 3,
-        Answer::LengthMismatch {
-            src_len: _,
-            dst_len: _,
-        } => 4,
-        Answer::NanOrInf {
-            position: _,
-            value: _,
-        } => 5,
-        Answer::OutOfRange {
-            position: _,
-            value: _,
-            lo: _,
-            hi: _,
-        } => 6,
-        Answer::FloatOutOfRange {
-            position: _,
-            value: _,
-            lo: _,
-            hi: _,
-        } => 7,
-        Answer::BarredWrap => 8,
+        Ok(()) => 0,
+        Err(Refusal::UnknownCode) => 1,
+        Err(Refusal::BrokenMap) => 2,
+        Err(Refusal::BrokenElement) => 3,
+        Err(Refusal::LengthMismatch { .. }) => 4,
+        Err(Refusal::NanOrInf { .. }) => 5,
+        Err(Refusal::OutOfRange { .. }) => 6,
+        Err(Refusal::FloatOutOfRange { .. }) => 7,
+        Err(Refusal::BarredWrap) => 8,
     }
 }
 
@@ -59,27 +43,9 @@ pub fn position(a: Answer) -> usize
     ensures { result ≡ position_of a }
 {
     match a {
-        Answer::NanOrInf { position, value: _ } => position,
-        Answer::OutOfRange {
-            position,
-            value: _,
-            lo: _,
-            hi: _,
-        } => position,
-        Answer::FloatOutOfRange {
-            position,
-            value: _,
-            lo: _,
-            hi: _,
-        } => position,
-        Answer::Converted => 0,
-        Answer::UnknownCode => 0,
-        Answer::BrokenMap => 0,
-        Answer::BrokenElement => 0,
-        Answer::LengthMismatch {
-            src_len: _,
-            dst_len: _,
-        } => 0,
-        Answer::BarredWrap => 0,
+        Err(Refusal::NanOrInf { position, .. }) => position,
+        Err(Refusal::OutOfRange { position, .. }) => position,
+        Err(Refusal::FloatOutOfRange { position, .. }) => position,
+        _ => 0,
     }
 }

@@ -1,24 +1,23 @@
 -- To be believed: the papers' number and values for each case of an answer, and of what one element comes to; what a number leaves of the destination.
-use Rattle.std.specs.Prelude.{Bool, ◌&&◌, not, ℕ, ltb, leb}
+use Rattle.std.specs.Prelude.{Bool, ◌&&◌, not, ℕ, ltb, leb, Ok, Err}
 use Rattle.patterns.specs.Pattern.{low_bits}
 use Rattle.counts.specs.Counts.{no_counts}
-use Rattle.answers.specs.declared.Outcome.{Outcome}
-use Rattle.answers.specs.declared.Outcome.TheVariants as O
-use Rattle.answers.specs.declared.Answer.{Answer}
-use Rattle.answers.specs.declared.Answer.TheVariants.{Converted, UnknownCode, BrokenMap, BrokenElement, LengthMismatch, NanOrInf, OutOfRange, FloatOutOfRange, BarredWrap}
+use Rattle.answers.specs.declared.ElementRefusal.TheVariants as E
+use Rattle.answers.specs.declared.Refusal.TheVariants.{UnknownCode, BrokenMap, BrokenElement, LengthMismatch, NanOrInf, OutOfRange, FloatOutOfRange, BarredWrap}
 use Rattle.answers.specs.declared.Reply.{Reply}
+use Rattle.answers.specs.Outcome.{Outcome, Answer}
 
 -- ---- the column "number" of the table "What the chunk call answers", and 8 "for wrap with target kind f32 or f64", or f16; 0 where all is converted
 abbrev pub number_of : Answer → ℕ
-number_of Converted = 0
-number_of UnknownCode = 1
-number_of BrokenMap = 2
-number_of BrokenElement = 3
-number_of (LengthMismatch s d) = 4
-number_of (NanOrInf i v) = 5
-number_of (OutOfRange i v lo hi) = 6
-number_of (FloatOutOfRange i v lo hi) = 7
-number_of BarredWrap = 8
+number_of (Ok all) = 0
+number_of (Err UnknownCode) = 1
+number_of (Err BrokenMap) = 2
+number_of (Err BrokenElement) = 3
+number_of (Err (LengthMismatch s d)) = 4
+number_of (Err (NanOrInf i v)) = 5
+number_of (Err (OutOfRange i v lo hi)) = 6
+number_of (Err (FloatOutOfRange i v lo hi)) = 7
+number_of (Err BarredWrap) = 8
 
 -- ---- what a refusal leaves: "Refusals 5 to 7 concern the first bad element", and name its position
 abbrev pub names_position : ℕ → Bool
@@ -50,31 +49,31 @@ element_values i v lo hi = record { source_count = 0; destination_count = 0; pos
 
 -- the lowest end of an integer kind is signed, and stands as its 64 bits, two's complement
 abbrev pub values_of : Answer → Values
-values_of Converted = no_values
-values_of UnknownCode = no_values
-values_of BrokenMap = no_values
-values_of BrokenElement = no_values
-values_of (LengthMismatch s d) = both_counts s d
-values_of (NanOrInf i v) = element_values i v 0 0
-values_of (OutOfRange i v lo hi) = element_values i v (low_bits 64 lo) hi
-values_of (FloatOutOfRange i v lo hi) = element_values i v lo hi
-values_of BarredWrap = no_values
+values_of (Ok all) = no_values
+values_of (Err UnknownCode) = no_values
+values_of (Err BrokenMap) = no_values
+values_of (Err BrokenElement) = no_values
+values_of (Err (LengthMismatch s d)) = both_counts s d
+values_of (Err (NanOrInf i v)) = element_values i v 0 0
+values_of (Err (OutOfRange i v lo hi)) = element_values i v (low_bits 64 lo) hi
+values_of (Err (FloatOutOfRange i v lo hi)) = element_values i v lo hi
+values_of (Err BarredWrap) = no_values
 
 abbrev pub position_of : Answer → ℕ
 position_of r = (values_of r).position
 
 -- ---- of what the element at a position comes to: the refusal that it is, and 0 where it is stored
 abbrev pub outcome_number : Outcome → ℕ
-outcome_number (O.Stored b f) = 0
-outcome_number (O.NanOrInf v) = 5
-outcome_number (O.OutOfRange v lo hi) = 6
-outcome_number (O.FloatOutOfRange v lo hi) = 7
+outcome_number (Ok s) = 0
+outcome_number (Err (E.NanOrInf v)) = 5
+outcome_number (Err (E.OutOfRange v lo hi)) = 6
+outcome_number (Err (E.FloatOutOfRange v lo hi)) = 7
 
 abbrev pub outcome_values : ℕ → Outcome → Values
-outcome_values i (O.Stored b f) = no_values
-outcome_values i (O.NanOrInf v) = element_values i v 0 0
-outcome_values i (O.OutOfRange v lo hi) = element_values i v (low_bits 64 lo) hi
-outcome_values i (O.FloatOutOfRange v lo hi) = element_values i v lo hi
+outcome_values i (Ok s) = no_values
+outcome_values i (Err (E.NanOrInf v)) = element_values i v 0 0
+outcome_values i (Err (E.OutOfRange v lo hi)) = element_values i v (low_bits 64 lo) hi
+outcome_values i (Err (E.FloatOutOfRange v lo hi)) = element_values i v lo hi
 
 -- ---- "Refusals 1 to 4 give five zeros"; "Like 1 to 4, number 8 .. gives five zeros"
 abbrev pub unconverted : Answer → Reply

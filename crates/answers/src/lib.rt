@@ -2,29 +2,41 @@
 #![tactic(auto)]
 
 ghost use Rattle.std.specs.Prelude.{◌≡◌};
+ghost use Rattle.answers.specs.Outcome.{fit_as};
 
 use counts::{Counts, Fared};
 
-// What one element comes to: the target pattern that is stored, and how it fared, or why it is refused. A value and a float's ends are f64 patterns.
+// What is stored for an element: its target pattern, and how it fared.
 #[derive(Clone, Copy)]
-pub enum Outcome {
-    Stored { pattern: u64, fared: Fared },
+pub struct Stored {
+    pub pattern: u64,
+    pub fared: Fared,
+}
+
+// Why an element is refused. A value and a float's ends are f64 patterns.
+#[derive(Clone, Copy)]
+pub enum ElementRefusal {
     NanOrInf { value: u64 },
     OutOfRange { value: u64, lo: i64, hi: u64 },
     FloatOutOfRange { value: u64, lo: u64, hi: u64 },
 }
 
-// What the map gives for an element: the target pattern of the first matching entry, or none.
+// What one element comes to.
+pub type Outcome = Result<Stored, ElementRefusal>;
+
+// Why a conversion leaves nothing to store; the fields of a refusal come later.
 #[derive(Clone, Copy)]
-pub enum Lookup {
-    Found(u64),
-    Missing,
+pub enum ConversionError {
+    NotFinite,
+    OutOfRange,
 }
 
-// What a chunk call answers: all converted, or one of the eight refusals in the order of their numbers.
+// What a conversion leaves of an element.
+pub type Fit = Result<Stored, ConversionError>;
+
+// Why a chunk call is refused, in the order of the numbers 1 to 8.
 #[derive(Clone, Copy)]
-pub enum Answer {
-    Converted,
+pub enum Refusal {
     UnknownCode,
     BrokenMap,
     BrokenElement,
@@ -51,6 +63,9 @@ pub enum Answer {
     BarredWrap,
 }
 
+// What a chunk call answers: that all is converted, or the refusal.
+pub type Answer = Result<(), Refusal>;
+
 // What a call returns: its answer, and how the elements fared that it converted.
 #[derive(Clone, Copy)]
 pub struct Reply {
@@ -65,30 +80,22 @@ pub struct Preview {
     pub changed: usize,
 }
 
-// What a conversion leaves of an element: the target pattern to store, and how the element fared, or why there is none.
-#[derive(Clone, Copy)]
-pub enum Fit {
-    Pattern { pattern: u64, fared: Fared },
-    NotFinite,
-    OutOfRange,
-}
-
 // What the map leaves of an element: the target of an entry.
 pub fn mapped(target: u64) -> Fit
-    ensures { result ≡ Fit.Pattern target Fared.Mapped }
+    ensures { result ≡ fit_as target Fared.Mapped }
 {
-    Fit::Pattern {
+    Ok(Stored {
         pattern: target,
         fared: Fared::Mapped,
-    }
+    })
 }
 
 // What a conversion leaves of an element that it does not round.
 pub fn exact(pattern: u64) -> Fit
-    ensures { result ≡ Fit.Pattern pattern Fared.Exact }
+    ensures { result ≡ fit_as pattern Fared.Exact }
 {
-    Fit::Pattern {
+    Ok(Stored {
         pattern: pattern,
         fared: Fared::Exact,
-    }
+    })
 }

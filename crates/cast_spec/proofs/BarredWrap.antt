@@ -13,14 +13,14 @@ use Rattle.patterns.specs.Kind.{is_float}
 use Rattle.answers.specs.Answer.{number_of}
 use Rattle.kinds.specs.Table.{kind_of}
 use Rattle.codes.specs.Codes.{wrap_barred}
-use Rattle.answers.specs.declared.Answer.{Answer}
-use Rattle.answers.specs.declared.Answer.TheVariants as A
+use Rattle.answers.specs.declared.Refusal.TheVariants as A
 use Rattle.counts.specs.declared.Counts.{Counts}
 use Rattle.kinds.proofs.Listed.{float_from_8}
 use Rattle.codes.proofs.Listed.{listed_kinds}
 use Rattle.grid.proofs.Tests.{parts}
 use Rattle.cast_spec.specs.Chunk.{Inputs, sw, dw, codes_listed, wrap_permitted, map_whole, bytes_whole, counts_meet, Check, all_pass, tested, call_of, outcome_at, answer_from, answer_of, bytes_from, destination_of, converted_of, counts_below, counts_of}
 use Rattle.cast_spec.proofs.Demand1.{demand1}
+use Rattle.answers.specs.Outcome.{Answer}
 
 -- ---- "8 for wrap with target kind f32 or f64", and "From now on 8 bars wrap to f16 too", whatever the lengths, the map and the elements are
 not_not : (b : Bool) → not b ≡ false → b ≡ true

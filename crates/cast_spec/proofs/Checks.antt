@@ -12,32 +12,32 @@ use Rattle.bytes_le.specs.Bytes.{to_le}
 use Rattle.bytes_le.proofs.Sums.{length-to_le}
 use Rattle.answers.specs.Answer.{number_of, names_position}
 use Rattle.grid.proofs.Tests.{both}
-use Rattle.answers.specs.declared.Outcome.{Outcome}
-use Rattle.answers.specs.declared.Outcome.TheVariants.{Stored, NanOrInf, OutOfRange, FloatOutOfRange}
-use Rattle.answers.specs.declared.Answer.{Answer}
-use Rattle.answers.specs.declared.Answer.TheVariants as A
+use Rattle.answers.specs.declared.Refusal.TheVariants as A
 use Rattle.cast_spec.specs.Chunk.{Inputs, sw, dw, codes_listed, wrap_permitted, map_whole, bytes_whole, counts_meet, Check, checks_of, all_pass, tested, call_of, outcome_at, answer_from, answer_of, bytes_next, bytes_from, destination_of}
+use Rattle.answers.specs.Outcome.{Answer, Outcome}
+use Rattle.answers.specs.declared.ElementRefusal.TheVariants.{FloatOutOfRange, NanOrInf, OutOfRange}
+use Rattle.std.specs.Prelude.{Err, Ok}
 
 -- ---- any checks
 pub tested_pass : (cs : List Check) (x : Answer) → T (all_pass cs) → tested cs x ≡ x
 tested_pass [] x t = refl
 tested_pass (c ∷ cs) x t = go c.passes (tested_pass cs x) t
   where
-    go : (b : Bool) → (T (all_pass cs) → tested cs x ≡ x) → T (b && all_pass cs) → cond b (tested cs x) c.refusal ≡ x
+    go : (b : Bool) → (T (all_pass cs) → tested cs x ≡ x) → T (b && all_pass cs) → cond b (tested cs x) (Err c.refusal) ≡ x
     go true f t = f t
     go false f t = absurd t
 
 -- each of their refusals is so
 abbrev pub EachRefusal : (Answer → Type 0) → List Check → Type 0
 EachRefusal P [] = Unit {0}
-EachRefusal P (c ∷ cs) = P c.refusal × EachRefusal P cs
+EachRefusal P (c ∷ cs) = P (Err c.refusal) × EachRefusal P cs
 
 -- what holds of each refusal, and of x where all pass, holds of the answer
 pub tested_by : (P : Answer → Type 0) (cs : List Check) (x : Answer) → EachRefusal P cs → (all_pass cs ≡ true → P x) → P (tested cs x)
 tested_by P [] x h g = g refl
 tested_by P (c ∷ cs) x h g = go c.passes (tested_by P cs x h.1) g
   where
-    go : (b : Bool) → ((all_pass cs ≡ true → P x) → P (tested cs x)) → (b && all_pass cs ≡ true → P x) → P (cond b (tested cs x) c.refusal)
+    go : (b : Bool) → ((all_pass cs ≡ true → P x) → P (tested cs x)) → (b && all_pass cs ≡ true → P x) → P (cond b (tested cs x) (Err c.refusal))
     go true f g = f g
     go false f g = h.0
 
@@ -110,10 +110,10 @@ module _ (o : ℕ → Outcome) (w : ℕ) where
   length_bytes (suc n) i d h = go (o i) (bytes_from o w (suc i) n (drop w d)) (length_bytes n (suc i) (drop w d) (subst (λ (z : ℕ). n * w ≤ z) (sym (length-drop w d)) (omega arith)) ∙ length-drop w d)
     where
       go : (x : Outcome) (r : List ℕ) → length r ≡ length d - w → length (bytes_next x w d r) ≡ length d
-      go (Stored b _) r e = length-append (to_le w b) r ∙ ap (λ (z : ℕ). z + length r) (length-to_le w b) ∙ omega arith
-      go (NanOrInf v) r e = refl
-      go (OutOfRange v lo hi) r e = refl
-      go (FloatOutOfRange v lo hi) r e = refl
+      go (Ok s) r e = length-append (to_le w s.pattern) r ∙ ap (λ (z : ℕ). z + length r) (length-to_le w s.pattern) ∙ omega arith
+      go (Err (NanOrInf v)) r e = refl
+      go (Err (OutOfRange v lo hi)) r e = refl
+      go (Err (FloatOutOfRange v lo hi)) r e = refl
 
 module _ (I : Inputs) where
   pub long_written : T (call_of I).passed → length (bytes_from (outcome_at (call_of I)) (dw I) 0 (call_of I).count I.destination) ≡ length I.destination
@@ -121,7 +121,7 @@ module _ (I : Inputs) where
 
 -- ---- the cause of each number, where the checks give a, b, c, d and e, the elements' answer is x, and s and t are the counts
 abbrev checked : Bool → Bool → Bool → Bool → Bool → Answer → ℕ → ℕ → Answer
-checked a b c d e x s t = cond a (cond b (cond c (cond d (cond e x (A.LengthMismatch s t)) A.BrokenElement) A.BrokenMap) A.BarredWrap) A.UnknownCode
+checked a b c d e x s t = cond a (cond b (cond c (cond d (cond e x (Err (A.LengthMismatch s t))) (Err A.BrokenElement)) (Err A.BrokenMap)) (Err A.BarredWrap)) (Err A.UnknownCode)
 
 pub record Causes (a b c d e : Bool) (r : Answer) : Type 0 where
   pub one : (number_of r ≡ 1) ↔ (a ≡ false)

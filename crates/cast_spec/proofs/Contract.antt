@@ -2,7 +2,6 @@
 use mathlib.Core.Path.{◌≡◌, sym, subst}
 use mathlib.Core.List.{List}
 use Prim.Native.Nat.{ℕ}
-use Rattle.answers.specs.declared.Answer.{Answer}
 use Rattle.counts.specs.declared.Counts.{Counts}
 use Rattle.answers.specs.declared.Reply.{Reply}
 use Rattle.cast_spec.specs.Chunk.{Inputs, call_of, answer_of, counts_of, destination_of, result_at}
@@ -13,6 +12,7 @@ use Rattle.cast_spec.specs.Contract.{Contract}
 use Rattle.cast_spec.proofs.Counts.{counted}
 use Rattle.cast_spec.proofs.Demand1.{demand1}
 use Rattle.cast_spec.proofs.Demand3.{demand3}
+use Rattle.answers.specs.Outcome.{Answer}
 
 pub contract : (I : Inputs) (r : Reply) (d : List ℕ) → r.answer ≡ answer_of I → r.counts ≡ counts_of I → d ≡ destination_of I → Contract I r d
 contract I r d e g f = record {

@@ -10,18 +10,18 @@ use borrow.Author.Tests.{eqb-true, eqb-false}
 use Rattle.patterns.specs.Kind.{WellFormed}
 use Rattle.answers.specs.Answer.{number_of, names_position, leaves_all, position_of}
 use Rattle.counts.specs.Counts.{place_of, count_of}
-use Rattle.answers.specs.declared.Answer.{Answer}
-use Rattle.answers.specs.declared.Answer.TheVariants as A
+use Rattle.answers.specs.declared.Refusal.TheVariants as A
 use Rattle.counts.specs.declared.Fared.{Fared}
 use Rattle.counts.specs.declared.Fared.TheVariants.{Mapped, Exact, Rounded, Clamped, Wrapped}
-use Rattle.answers.specs.declared.Outcome.{Outcome}
-use Rattle.answers.specs.declared.Outcome.TheVariants.{Stored, NanOrInf, OutOfRange, FloatOutOfRange}
 use Rattle.cast_spec.specs.Chunk.{Inputs, call_of, outcome_at, answer_next, answer_from, answer_of, counts_of, converted_of, fared_as, count_below}
 use Rattle.cast_spec.specs.Counted.{Fares, HowMany, Counted}
 use Rattle.cast_spec.proofs.Checks.{answer_is}
 use Rattle.cast_spec.proofs.Classes.{fares, named}
 use Rattle.cast_spec.proofs.Demand1.{demand1, refused_early}
 use Rattle.cast_spec.proofs.Demand3.{good, to_is}
+use Rattle.answers.specs.Outcome.{Answer, Outcome, stored_as}
+use Rattle.answers.specs.declared.ElementRefusal.TheVariants.{FloatOutOfRange, NanOrInf, OutOfRange}
+use Rattle.std.specs.Prelude.{Err, Ok}
 
 -- ---- the order of the five tells them apart
 fared_at : ℕ → Fared
@@ -50,10 +50,10 @@ miss P n (suc k) a r = inr (a, r)
 -- ---- n stored elements
 module _ (o : ℕ → Outcome) where
   abbrev StoredAt : ℕ → Type 0
-  StoredAt i = (b : ℕ) × (f : Fared) × (o i ≡ Stored b f)
+  StoredAt i = (b : ℕ) × (f : Fared) × (o i ≡ stored_as b f)
 
   -- how many are of a class
-  how_many : (P : Fared → ℕ → Type 0) → ((i : ℕ) (f : Fared) (b : ℕ) → o i ≡ Stored b f → P f i × ((g : Fared) → P g i → f ≡ g)) → (f : Fared) (n : ℕ) → ((i : ℕ) → i < n → StoredAt i) → HowMany (P f) n (count_below o f n)
+  how_many : (P : Fared → ℕ → Type 0) → ((i : ℕ) (f : Fared) (b : ℕ) → o i ≡ stored_as b f → P f i × ((g : Fared) → P g i → f ≡ g)) → (f : Fared) (n : ℕ) → ((i : ℕ) → i < n → StoredAt i) → HowMany (P f) n (count_below o f n)
   how_many P h f zero s = refl
   how_many P h f (suc n) s =
       let x = s n (omega arith) in
@@ -74,7 +74,7 @@ module _ (o : ℕ → Outcome) where
       next : Fared → Outcome → ℕ
       next f u = cond (fared_as f u) (suc (count_below o f n)) (count_below o f n)
 
-      go : (b : ℕ) (f : Fared) → count_below o Mapped n + count_below o Exact n + count_below o Rounded n + count_below o Clamped n + count_below o Wrapped n ≡ n → next Mapped (Stored b f) + next Exact (Stored b f) + next Rounded (Stored b f) + next Clamped (Stored b f) + next Wrapped (Stored b f) ≡ suc n
+      go : (b : ℕ) (f : Fared) → count_below o Mapped n + count_below o Exact n + count_below o Rounded n + count_below o Clamped n + count_below o Wrapped n ≡ n → next Mapped (stored_as b f) + next Exact (stored_as b f) + next Rounded (stored_as b f) + next Clamped (stored_as b f) + next Wrapped (stored_as b f) ≡ suc n
       go b Mapped e = omega arith
       go b Exact e = omega arith
       go b Rounded e = omega arith
@@ -93,17 +93,17 @@ module _ (I : Inputs) where
   before r e h i l = let d = (demand1 I).before (subst (λ (z : Answer). T (names_position (number_of z))) (sym e) h) i (subst (λ (z : Answer). i < position_of z) (sym e) l) in (d.pattern, d.fared, d.outcome)
 
   stored : (r : Answer) → answer_of I ≡ r → (i : ℕ) → i < converted_of n r → StoredAt o i
-  stored A.Converted e i l = let d = (demand1 I).all_converted (ap number_of e) i l in (d.pattern, d.fared, d.outcome)
-  stored A.UnknownCode e i l = absurd (omega arith)
-  stored A.BrokenMap e i l = absurd (omega arith)
-  stored A.BrokenElement e i l = absurd (omega arith)
-  stored (A.LengthMismatch a b) e i l = absurd (omega arith)
-  stored (A.NanOrInf j v) e i l = before (A.NanOrInf j v) e tt i l
-  stored (A.OutOfRange j v lo hi) e i l = before (A.OutOfRange j v lo hi) e tt i l
-  stored (A.FloatOutOfRange j v lo hi) e i l = before (A.FloatOutOfRange j v lo hi) e tt i l
-  stored A.BarredWrap e i l = absurd (omega arith)
+  stored (Ok tt) e i l = let d = (demand1 I).all_converted (ap number_of e) i l in (d.pattern, d.fared, d.outcome)
+  stored (Err A.UnknownCode) e i l = absurd (omega arith)
+  stored (Err A.BrokenMap) e i l = absurd (omega arith)
+  stored (Err A.BrokenElement) e i l = absurd (omega arith)
+  stored (Err (A.LengthMismatch a b)) e i l = absurd (omega arith)
+  stored (Err (A.NanOrInf j v)) e i l = before (Err (A.NanOrInf j v)) e tt i l
+  stored (Err (A.OutOfRange j v lo hi)) e i l = before (Err (A.OutOfRange j v lo hi)) e tt i l
+  stored (Err (A.FloatOutOfRange j v lo hi)) e i l = before (Err (A.FloatOutOfRange j v lo hi)) e tt i l
+  stored (Err A.BarredWrap) e i l = absurd (omega arith)
 
-  class_told : (i : ℕ) (f : Fared) (b : ℕ) → o i ≡ Stored b f → Fares (call_of I) f i × ((g : Fared) → Fares (call_of I) g i → f ≡ g)
+  class_told : (i : ℕ) (f : Fared) (b : ℕ) → o i ≡ stored_as b f → Fares (call_of I) f i × ((g : Fared) → Fares (call_of I) g i → f ≡ g)
   class_told i f b e = let ok = subst WellFormed (sym (to_is I)) (good I.to) in (fares (call_of I) i ok f b e, λ g p. named (call_of I) i ok g f b p e)
 
   -- "whose class .. is that one": each converted element has one class
@@ -134,21 +134,21 @@ converted_le o (suc n) a = go (o a) (subst (λ (z : ℕ). converted_of z (answer
     move a n = omega arith
 
     go : (x : Outcome) → converted_of (a + suc n) (answer_from o (suc a) n) ≤ a + suc n → converted_of (a + suc n) (answer_next x a (answer_from o (suc a) n)) ≤ a + suc n
-    go (Stored b _) h = h
-    go (NanOrInf v) h = omega arith
-    go (OutOfRange v lo hi) h = omega arith
-    go (FloatOutOfRange v lo hi) h = omega arith
+    go (Ok s) h = h
+    go (Err (NanOrInf v)) h = omega arith
+    go (Err (OutOfRange v lo hi)) h = omega arith
+    go (Err (FloatOutOfRange v lo hi)) h = omega arith
 
 early_none : (n : ℕ) (r : Answer) → T (leaves_all (number_of r)) → converted_of n r ≡ 0
-early_none n A.Converted h = absurd h
-early_none n A.UnknownCode h = refl
-early_none n A.BrokenMap h = refl
-early_none n A.BrokenElement h = refl
-early_none n (A.LengthMismatch a b) h = refl
-early_none n (A.NanOrInf i v) h = absurd h
-early_none n (A.OutOfRange i v lo hi) h = absurd h
-early_none n (A.FloatOutOfRange i v lo hi) h = absurd h
-early_none n A.BarredWrap h = refl
+early_none n (Ok tt) h = absurd h
+early_none n (Err A.UnknownCode) h = refl
+early_none n (Err A.BrokenMap) h = refl
+early_none n (Err A.BrokenElement) h = refl
+early_none n (Err (A.LengthMismatch a b)) h = refl
+early_none n (Err (A.NanOrInf i v)) h = absurd h
+early_none n (Err (A.OutOfRange i v lo hi)) h = absurd h
+early_none n (Err (A.FloatOutOfRange i v lo hi)) h = absurd h
+early_none n (Err A.BarredWrap) h = refl
 
 pub converted_within : (I : Inputs) (j : ℕ) → j < converted_of (call_of I).count (answer_of I) → T (call_of I).passed × (j < (call_of I).count)
 converted_within I j l = go (call_of I).passed refl

@@ -10,10 +10,7 @@ use lib.Dec.{lit≤, T}
 use lib.ListN.{length, drop}
 use lib.Seq.{drop-append-add, drop-drop}
 use Rattle.bytes_le.proofs.Places.{first_place, next_place}
-use Rattle.answers.specs.declared.Answer.{Answer}
 use Rattle.counts.specs.declared.Fared.{Fared}
-use Rattle.answers.specs.declared.Outcome.TheVariants.{FloatOutOfRange, NanOrInf, OutOfRange, Stored}
-use Rattle.answers.specs.declared.Outcome.{Outcome}
 use Rattle.cast_spec.specs.Chunk.{Refuses, Reached, sw, dw, answer_from, answer_next, bytes_from, bytes_next, Inputs, answer_of, checks_of, codes_listed, wrap_permitted, map_whole, bytes_whole, counts_meet, call_of, destination_of, outcome_at}
 use Rattle.cast_spec.proofs.Places.{later}
 use Rattle.bytes_le.proofs.Sums.{length-to_le}
@@ -28,18 +25,21 @@ use Rattle.cast_spec.proofs.Overrun.{overrun_range}
 use Rattle.answers.proofs.Numbers.{never_both}
 use Rattle.cast_spec.proofs.Each.{Served}
 use Rattle.cast_spec.proofs.Demand3.{at_place}
-use Rattle.answers.specs.declared.Answer.TheVariants as A
+use Rattle.answers.specs.declared.Refusal.TheVariants as A
+use Rattle.answers.specs.Outcome.{Answer, Outcome, stored_as}
+use Rattle.answers.specs.declared.ElementRefusal.TheVariants.{FloatOutOfRange, NanOrInf, OutOfRange}
+use Rattle.std.specs.Prelude.{Err, Ok}
 
 numbers : (r : Answer) → number_of r ≤ 8
-numbers A.Converted = lit≤ tt
-numbers A.UnknownCode = lit≤ tt
-numbers A.BrokenMap = lit≤ tt
-numbers A.BrokenElement = lit≤ tt
-numbers (A.LengthMismatch s d) = lit≤ tt
-numbers (A.NanOrInf i v) = lit≤ tt
-numbers (A.OutOfRange i v lo hi) = lit≤ tt
-numbers (A.FloatOutOfRange i v lo hi) = lit≤ tt
-numbers A.BarredWrap = lit≤ tt
+numbers (Ok tt) = lit≤ tt
+numbers (Err A.UnknownCode) = lit≤ tt
+numbers (Err A.BrokenMap) = lit≤ tt
+numbers (Err A.BrokenElement) = lit≤ tt
+numbers (Err (A.LengthMismatch s d)) = lit≤ tt
+numbers (Err (A.NanOrInf i v)) = lit≤ tt
+numbers (Err (A.OutOfRange i v lo hi)) = lit≤ tt
+numbers (Err (A.FloatOutOfRange i v lo hi)) = lit≤ tt
+numbers (Err A.BarredWrap) = lit≤ tt
 
 -- ---- n outcomes from the position a on
 module _ (o : ℕ → Outcome) (w : ℕ) where
@@ -56,39 +56,39 @@ module _ (o : ℕ → Outcome) (w : ℕ) where
       R = answer_from o (suc a) n
 
       here : (x : Outcome) → o a ≡ x → T (names_position (outcome_number x)) → Told (answer_next x a R) (a + suc n)
-      here (Stored b _) e l = absurd l
-      here (NanOrInf v) e l = (omega arith, ap outcome_number (sym e), ap (outcome_values a) (sym e))
-      here (OutOfRange v lo hi) e l = (omega arith, ap outcome_number (sym e), ap (outcome_values a) (sym e))
-      here (FloatOutOfRange v lo hi) e l = (omega arith, ap outcome_number (sym e), ap (outcome_values a) (sym e))
+      here (Ok s) e l = absurd l
+      here (Err (NanOrInf v)) e l = (omega arith, ap outcome_number (sym e), ap (outcome_values a) (sym e))
+      here (Err (OutOfRange v lo hi)) e l = (omega arith, ap outcome_number (sym e), ap (outcome_values a) (sym e))
+      here (Err (FloatOutOfRange v lo hi)) e l = (omega arith, ap outcome_number (sym e), ap (outcome_values a) (sym e))
 
       go : (x : Outcome) → o a ≡ x → (T (names_position (number_of R)) → Told R (suc a + n)) → T (names_position (number_of (answer_next x a R))) → Told (answer_next x a R) (a + suc n)
-      go (Stored b _) e f h = let g = f h in (omega (arith, g.0), g.1, g.2)
-      go (NanOrInf v) e f h = here (NanOrInf v) e tt
-      go (OutOfRange v lo hi) e f h = here (OutOfRange v lo hi) e tt
-      go (FloatOutOfRange v lo hi) e f h = here (FloatOutOfRange v lo hi) e tt
+      go (Ok s) e f h = let g = f h in (omega (arith, g.0), g.1, g.2)
+      go (Err (NanOrInf v)) e f h = here (Err (NanOrInf v)) e tt
+      go (Err (OutOfRange v lo hi)) e f h = here (Err (OutOfRange v lo hi)) e tt
+      go (Err (FloatOutOfRange v lo hi)) e f h = here (Err (FloatOutOfRange v lo hi)) e tt
 
   -- an element before any refusal is stored, and its place holds it
-  stored : (a n i : ℕ) (d : List ℕ) → i < n → (T (names_position (number_of (answer_from o a n))) → a + i < position_of (answer_from o a n)) → (b : ℕ) × (f : Fared) × (o (a + i) ≡ Stored b f) × (pattern_at w (bytes_from o w a n d) i ≡ b % 256 ^ w)
+  stored : (a n i : ℕ) (d : List ℕ) → i < n → (T (names_position (number_of (answer_from o a n))) → a + i < position_of (answer_from o a n)) → (b : ℕ) × (f : Fared) × (o (a + i) ≡ stored_as b f) × (pattern_at w (bytes_from o w a n d) i ≡ b % 256 ^ w)
   stored a zero i d l h = absurd (omega arith)
   stored a (suc n) zero d l h = go (o a) refl h
     where
-      go : (x : Outcome) → o a ≡ x → (T (names_position (number_of (answer_next x a (answer_from o (suc a) n)))) → a + 0 < position_of (answer_next x a (answer_from o (suc a) n))) → (b : ℕ) × (f : Fared) × (o (a + 0) ≡ Stored b f) × (pattern_at w (bytes_next x w d (bytes_from o w (suc a) n (drop w d))) 0 ≡ b % 256 ^ w)
-      go (Stored b f) e h = (b, f, ap o (add-zero a) ∙ e, first_place w b (bytes_from o w (suc a) n (drop w d)))
-      go (NanOrInf v) e h = absurd (omega (arith, h tt))
-      go (OutOfRange v lo hi) e h = absurd (omega (arith, h tt))
-      go (FloatOutOfRange v lo hi) e h = absurd (omega (arith, h tt))
+      go : (x : Outcome) → o a ≡ x → (T (names_position (number_of (answer_next x a (answer_from o (suc a) n)))) → a + 0 < position_of (answer_next x a (answer_from o (suc a) n))) → (b : ℕ) × (f : Fared) × (o (a + 0) ≡ stored_as b f) × (pattern_at w (bytes_next x w d (bytes_from o w (suc a) n (drop w d))) 0 ≡ b % 256 ^ w)
+      go (Ok s) e h = (s.pattern, s.fared, ap o (add-zero a) ∙ e, first_place w s.pattern (bytes_from o w (suc a) n (drop w d)))
+      go (Err (NanOrInf v)) e h = absurd (omega (arith, h tt))
+      go (Err (OutOfRange v lo hi)) e h = absurd (omega (arith, h tt))
+      go (Err (FloatOutOfRange v lo hi)) e h = absurd (omega (arith, h tt))
   stored a (suc n) (suc i) d l h = go (o a) h (stored (suc a) n i (drop w d) (omega arith))
     where
       go : (x : Outcome) → (T (names_position (number_of (answer_next x a (answer_from o (suc a) n)))) → a + suc i < position_of (answer_next x a (answer_from o (suc a) n)))
-          → ((T (names_position (number_of (answer_from o (suc a) n))) → suc a + i < position_of (answer_from o (suc a) n)) → (b : ℕ) × (f : Fared) × (o (suc a + i) ≡ Stored b f) × (pattern_at w (bytes_from o w (suc a) n (drop w d)) i ≡ b % 256 ^ w))
-          → (b : ℕ) × (f : Fared) × (o (a + suc i) ≡ Stored b f) × (pattern_at w (bytes_next x w d (bytes_from o w (suc a) n (drop w d))) (suc i) ≡ b % 256 ^ w)
-      go (Stored b _) h f = let g = f (λ m. omega (arith, h m)) in (g.0, g.1, ap o (move a i) ∙ g.2, next_place w b i (bytes_from o w (suc a) n (drop w d)) ∙ g.3)
+          → ((T (names_position (number_of (answer_from o (suc a) n))) → suc a + i < position_of (answer_from o (suc a) n)) → (b : ℕ) × (f : Fared) × (o (suc a + i) ≡ stored_as b f) × (pattern_at w (bytes_from o w (suc a) n (drop w d)) i ≡ b % 256 ^ w))
+          → (b : ℕ) × (f : Fared) × (o (a + suc i) ≡ stored_as b f) × (pattern_at w (bytes_next x w d (bytes_from o w (suc a) n (drop w d))) (suc i) ≡ b % 256 ^ w)
+      go (Ok s) h f = let g = f (λ m. omega (arith, h m)) in (g.0, g.1, ap o (move a i) ∙ g.2, next_place w s.pattern i (bytes_from o w (suc a) n (drop w d)) ∙ g.3)
         where
           move : (a i : ℕ) → a + suc i ≡ suc a + i
           move a i = omega arith
-      go (NanOrInf v) h f = absurd (omega (arith, h tt))
-      go (OutOfRange v lo hi) h f = absurd (omega (arith, h tt))
-      go (FloatOutOfRange v lo hi) h f = absurd (omega (arith, h tt))
+      go (Err (NanOrInf v)) h f = absurd (omega (arith, h tt))
+      go (Err (OutOfRange v lo hi)) h f = absurd (omega (arith, h tt))
+      go (Err (FloatOutOfRange v lo hi)) h f = absurd (omega (arith, h tt))
 
   -- from the refused position on, the bytes are as they were
   kept : (a n q : ℕ) (d : List ℕ) → T (names_position (number_of (answer_from o a n))) → position_of (answer_from o a n) ≡ a + q → drop (q * w) (bytes_from o w a n d) ≡ drop (q * w) d
@@ -98,10 +98,10 @@ module _ (o : ℕ → Outcome) (w : ℕ) where
       go : (x : Outcome) (q : ℕ) → T (names_position (number_of (answer_next x a (answer_from o (suc a) n)))) → position_of (answer_next x a (answer_from o (suc a) n)) ≡ a + q
           → ((r : ℕ) → T (names_position (number_of (answer_from o (suc a) n))) → position_of (answer_from o (suc a) n) ≡ suc a + r → drop (r * w) (bytes_from o w (suc a) n (drop w d)) ≡ drop (r * w) (drop w d))
           → drop (q * w) (bytes_next x w d (bytes_from o w (suc a) n (drop w d))) ≡ drop (q * w) d
-      go (Stored b _) zero h e f = absurd (omega (arith, later o w (suc a) n h))
-      go (Stored b _) (suc r) h e f =
-          ap (λ (z : ℕ). drop z (to_le w b ++ bytes_from o w (suc a) n (drop w d))) (shift b r)
-          ∙ drop-append-add (to_le w b) (bytes_from o w (suc a) n (drop w d)) (r * w)
+      go (Ok s) zero h e f = absurd (omega (arith, later o w (suc a) n h))
+      go (Ok s) (suc r) h e f =
+          ap (λ (z : ℕ). drop z (to_le w s.pattern ++ bytes_from o w (suc a) n (drop w d))) (shift s.pattern r)
+          ∙ drop-append-add (to_le w s.pattern) (bytes_from o w (suc a) n (drop w d)) (r * w)
           ∙ f r h (omega arith)
           ∙ drop-drop (r * w) w d
           ∙ ap (λ (z : ℕ). drop z d) (again r w)
@@ -111,9 +111,9 @@ module _ (o : ℕ → Outcome) (w : ℕ) where
 
           again : (r w : ℕ) → w + r * w ≡ suc r * w
           again r w = omega arith
-      go (NanOrInf v) q h e f = refl
-      go (OutOfRange v lo hi) q h e f = refl
-      go (FloatOutOfRange v lo hi) q h e f = refl
+      go (Err (NanOrInf v)) q h e f = refl
+      go (Err (OutOfRange v lo hi)) q h e f = refl
+      go (Err (FloatOutOfRange v lo hi)) q h e f = refl
 
 -- ---- the call
 elements_answer : (o : ℕ → Outcome) (a n : ℕ) → ToElements (answer_from o a n)
@@ -121,10 +121,10 @@ elements_answer o a zero = inl refl
 elements_answer o a (suc n) = go (o a) (elements_answer o (suc a) n)
   where
     go : (x : Outcome) → ToElements (answer_from o (suc a) n) → ToElements (answer_next x a (answer_from o (suc a) n))
-    go (Stored b _) f = f
-    go (NanOrInf v) f = inr tt
-    go (OutOfRange v lo hi) f = inr tt
-    go (FloatOutOfRange v lo hi) f = inr tt
+    go (Ok s) f = f
+    go (Err (NanOrInf v)) f = inr tt
+    go (Err (OutOfRange v lo hi)) f = inr tt
+    go (Err (FloatOutOfRange v lo hi)) f = inr tt
 
 -- an answer to the elements has not the number of a check
 no_check : (x : Answer) → ToElements x → T (leaves_all (number_of x)) → ⊥
@@ -133,29 +133,29 @@ no_check x (inr h) l = never_both (number_of x) l h
 
 -- an outcome refuses whose number names a position
 refuses : (x : Outcome) → T (names_position (outcome_number x)) → Refuses x
-refuses (Stored b _) h = absurd h
-refuses (NanOrInf v) h = tt
-refuses (OutOfRange v lo hi) h = tt
-refuses (FloatOutOfRange v lo hi) h = tt
+refuses (Ok s) h = absurd h
+refuses (Err (NanOrInf v)) h = tt
+refuses (Err (OutOfRange v lo hi)) h = tt
+refuses (Err (FloatOutOfRange v lo hi)) h = tt
 
 -- a place that is served as a refused outcome asks has that refusal's number and position
 refused_by : (k : Kind) (r : Answer) (v : Value) (i : ℕ) (x : Outcome) → Served k r v i x → T (names_position (outcome_number x)) → (number_of r ≡ outcome_number x) × (position_of r ≡ i)
-refused_by k r v i (Stored b _) s h = absurd h
-refused_by k r v i (NanOrInf u) s h = s
-refused_by k r v i (OutOfRange u lo hi) s h = s
-refused_by k r v i (FloatOutOfRange u lo hi) s h = s
+refused_by k r v i (Ok z) s h = absurd h
+refused_by k r v i (Err (NanOrInf u)) s h = s
+refused_by k r v i (Err (OutOfRange u lo hi)) s h = s
+refused_by k r v i (Err (FloatOutOfRange u lo hi)) s h = s
 
 -- an answer that names no position and is not the number 4 has no values
 plain_values : (r : Answer) → names_position (number_of r) ≡ false → number_of r ≢ 4 → values_of r ≡ no_values
-plain_values A.Converted h f = refl
-plain_values A.UnknownCode h f = refl
-plain_values A.BrokenMap h f = refl
-plain_values A.BrokenElement h f = refl
-plain_values (A.LengthMismatch s d) h f = absurd (f refl)
-plain_values (A.NanOrInf i v) h f = absurd (true≢false h)
-plain_values (A.OutOfRange i v lo hi) h f = absurd (true≢false h)
-plain_values (A.FloatOutOfRange i v lo hi) h f = absurd (true≢false h)
-plain_values A.BarredWrap h f = refl
+plain_values (Ok tt) h f = refl
+plain_values (Err A.UnknownCode) h f = refl
+plain_values (Err A.BrokenMap) h f = refl
+plain_values (Err A.BrokenElement) h f = refl
+plain_values (Err (A.LengthMismatch s d)) h f = absurd (f refl)
+plain_values (Err (A.NanOrInf i v)) h f = absurd (true≢false h)
+plain_values (Err (A.OutOfRange i v lo hi)) h f = absurd (true≢false h)
+plain_values (Err (A.FloatOutOfRange i v lo hi)) h f = absurd (true≢false h)
+plain_values (Err A.BarredWrap) h f = refl
 
 module _ (I : Inputs) where
   abbrev o : ℕ → Outcome

@@ -14,13 +14,13 @@ use Rattle.patterns.specs.Value.{Value, value_of}
 use Rattle.cast_spec.specs.Chunk.{Inputs, Call, Reached, dw, settings_of, call_of, outcome_at, answer_from, answer_of, bytes_from, destination_of, result_at}
 use Rattle.bytes_le.specs.Bytes.{pattern_at}
 use Rattle.cast_spec.specs.Demand3.{Taken, Rounded, Demand3}
-use Rattle.answers.specs.declared.Answer.{Answer}
 use Rattle.kinds.proofs.Listed.{by_any_code}
 use Rattle.cast_spec.proofs.Checks.{answer_is, destination_is, range_listed, wrap_permitted_lem}
 use Rattle.cast_spec.proofs.Each.{Served, WrapsFloat, each_of}
 use Rattle.cast_spec.proofs.Places.{served}
 use Rattle.cast_spec.proofs.Order.{order_of}
 use Rattle.cast_spec.proofs.Widths.{kind_fits}
+use Rattle.answers.specs.Outcome.{Answer}
 
 -- ---- any call whose answer and places are as the outcomes say, whatever its route
 pub demand3_of : (c : Call) (r : Answer) (res : ℕ → Value) → WellFormed c.settings.to → (T c.passed → WrapsFloat c.settings.to c.settings.range → ⊥) → ((i : ℕ) → Reached c i → Served c.settings.to r (res i) i (outcome_at c i)) → Demand3 c r res

@@ -17,24 +17,24 @@ use Rattle.codes.specs.declared.OutOfRangeMode.{OutOfRangeMode}
 use Rattle.codes.specs.declared.OutOfRangeMode.TheVariants.{None, Clamp, Wrap}
 use Rattle.patterns.specs.Pattern.{pattern_of, as_f64}
 use Rattle.cast_spec.specs.Element.{nearer_end, beyond}
-use Rattle.answers.specs.declared.Outcome.{Outcome}
-use Rattle.answers.specs.declared.Outcome.TheVariants.{Stored, NanOrInf, OutOfRange, FloatOutOfRange}
 use Rattle.cast_spec.specs.Chunk.{Call, outcome_at}
 use Rattle.cast_spec.specs.Demand3.{Taken, RefusedBy, Kept, Congruent, Handled, Rounded}
-use Rattle.answers.specs.declared.Answer.{Answer}
 use Rattle.patterns.proofs.AnyKind.{sound, sign_of, pick_sign, int_back, int_fits, pattern_back, pattern_fits, lowest_in, unit_pos, multiple, ends_meet, high_on, low_on}
 use Rattle.cast_spec.proofs.Steps.{outcome_is, by_range}
 use Rattle.patterns.proofs.Floats.{inf_back, inf_fits}
 use Rattle.patterns.proofs.Integers.{value_in_range, value_in, wrapped}
 use Rattle.patterns.proofs.Integers as integers
 use Rattle.patterns.proofs.Floats as floats
+use Rattle.answers.specs.Outcome.{Answer, Outcome, stored_as}
+use Rattle.answers.specs.declared.ElementRefusal.TheVariants.{FloatOutOfRange, NanOrInf, OutOfRange}
+use Rattle.std.specs.Prelude.{Err, Ok}
 
 -- the answer r, and the place of the position i, which holds v, are as the outcome says
 abbrev pub Served : Kind → Answer → Value → ℕ → Outcome → Type 0
-Served k r v i (Stored b _) = Kept r i × (b < 2 ^ bits k → v ≡ value_of k b)
-Served k r v i (NanOrInf x) = RefusedBy 5 r i
-Served k r v i (OutOfRange x lo hi) = RefusedBy 6 r i
-Served k r v i (FloatOutOfRange x lo hi) = RefusedBy 7 r i
+Served k r v i (Ok s) = Kept r i × (s.pattern < 2 ^ bits k → v ≡ value_of k s.pattern)
+Served k r v i (Err (NanOrInf x)) = RefusedBy 5 r i
+Served k r v i (Err (OutOfRange x lo hi)) = RefusedBy 6 r i
+Served k r v i (Err (FloatOutOfRange x lo hi)) = RefusedBy 7 r i
 
 nearer_low : (k : Kind) (y : ℤ) → y <ℤ lowest k → nearer_end k y ≡ lowest k
 nearer_low k y h = go (lt_z y (lowest k)) h.lt
@@ -116,7 +116,7 @@ each_of c r v i x ok free t f =
     let P = picked (grid_of k) (sound k ok) S.rule x in
     let e = sign_of S.from b x t.finite in
     let g = subst (λ (o : Outcome). Served k r v i o) (outcome_is S b x t.finite t.unmatched) f in
-    let h = by_range (Served k r v i) k y (Stored (pattern_of k neg y) (by_pick (ternary_of x y))) (beyond k S.range (as_f64 S.from b) neg y) g in record {
+    let h = by_range (Served k r v i) k y (stored_as (pattern_of k neg y) (by_pick (ternary_of x y))) (beyond k S.range (as_f64 S.from b) neg y) g in record {
       y = y;
       pick = P;
       result = λ (a : InRange k y). ((h.0 a).0, (h.0 a).1 (pattern_fits k neg y ok P.on a) ∙ pattern_back k neg y ok P.on a (pick_sign (grid_of k) (sound k ok) S.rule neg x e));

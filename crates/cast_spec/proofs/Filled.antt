@@ -13,11 +13,10 @@ use Rattle.patterns.specs.Pattern.{as_f64, pattern_of}
 use Rattle.counts.specs.Counts.{by_pick}
 use Rattle.codes.specs.declared.OutOfRangeMode.{OutOfRangeMode}
 use Rattle.codes.specs.declared.OutOfRangeMode.TheVariants.{None, Clamp, Wrap}
-use Rattle.answers.specs.declared.Outcome.TheVariants.{Stored}
-use Rattle.answers.specs.declared.Lookup.{Lookup}
-use Rattle.answers.specs.declared.Lookup.TheVariants.{Found, Missing}
 use Rattle.cast_spec.specs.Element.{beyond, converted, found_or, in_range, ranged}
 use Rattle.cast_spec.specs.Fit.{fit_of, filled, unmapped}
+use Rattle.answers.specs.Outcome.{stored_as}
+use Rattle.std.specs.Prelude.{None, Option, Some}
 
 module _ (range : OutOfRangeMode) (neg : Bool) (x y : ℤ) where
   beyond_any : (k : Kind) (v v' : ℕ) → fit_of (beyond k range v neg y) ≡ fit_of (beyond k range v' neg y)
@@ -53,14 +52,14 @@ module _ (range : OutOfRangeMode) (neg : Bool) (x y : ℤ) where
   pub fit_any : (k : Kind) (v v' : ℕ) → fit_of (ranged k range v neg x y) ≡ fit_of (ranged k range v' neg x y)
   fit_any k v v' = go (in_range k y)
     where
-      go : (c : Bool) → fit_of (cond c (Stored (pattern_of k neg y) (by_pick (ternary_of x y))) (beyond k range v neg y)) ≡ fit_of (cond c (Stored (pattern_of k neg y) (by_pick (ternary_of x y))) (beyond k range v' neg y))
+      go : (c : Bool) → fit_of (cond c (stored_as (pattern_of k neg y) (by_pick (ternary_of x y))) (beyond k range v neg y)) ≡ fit_of (cond c (stored_as (pattern_of k neg y) (by_pick (ternary_of x y))) (beyond k range v' neg y))
       go true = refl
       go false = beyond_any k v v'
 
   ranged_filled : (k : Kind) (v : ℕ) → filled k v (fit_of (ranged k range v neg x y)) ≡ ranged k range v neg x y
   ranged_filled k v = go (in_range k y)
     where
-      go : (c : Bool) → filled k v (fit_of (cond c (Stored (pattern_of k neg y) (by_pick (ternary_of x y))) (beyond k range v neg y))) ≡ cond c (Stored (pattern_of k neg y) (by_pick (ternary_of x y))) (beyond k range v neg y)
+      go : (c : Bool) → filled k v (fit_of (cond c (stored_as (pattern_of k neg y) (by_pick (ternary_of x y))) (beyond k range v neg y))) ≡ cond c (stored_as (pattern_of k neg y) (by_pick (ternary_of x y))) (beyond k range v neg y)
       go true = refl
       go false = beyond_filled k v
 
@@ -75,6 +74,6 @@ unmapped_filled from to rule range b = go to (value_of from b)
     go (binary p w s) (inf neg) = refl
     go (binary p w s) nan = refl
 
-pub outcome_filled : (f : Lookup) (from to : Kind) (rule : RoundingMode) (range : OutOfRangeMode) (b : ℕ) → filled to (as_f64 from b) (fit_of (found_or f (unmapped from to rule range b))) ≡ found_or f (unmapped from to rule range b)
-outcome_filled (Found t) from to rule range b = refl
-outcome_filled Missing from to rule range b = unmapped_filled from to rule range b
+pub outcome_filled : (f : Option ℕ) (from to : Kind) (rule : RoundingMode) (range : OutOfRangeMode) (b : ℕ) → filled to (as_f64 from b) (fit_of (found_or f (unmapped from to rule range b))) ≡ found_or f (unmapped from to rule range b)
+outcome_filled (Some t) from to rule range b = refl
+outcome_filled None from to rule range b = unmapped_filled from to rule range b

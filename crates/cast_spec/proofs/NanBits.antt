@@ -27,11 +27,6 @@ use Rattle.counts.specs.declared.Counts.{Counts}
 use Rattle.counts.specs.declared.Fared.{Fared}
 use Rattle.counts.specs.declared.Fared.TheVariants.{Mapped, Exact, Rounded, Clamped, Wrapped}
 use Rattle.codes.specs.declared.OutOfRangeMode.{OutOfRangeMode}
-use Rattle.answers.specs.declared.Lookup.{Lookup}
-use Rattle.answers.specs.declared.Lookup.TheVariants.{Found}
-use Rattle.answers.specs.declared.Outcome.{Outcome}
-use Rattle.answers.specs.declared.Outcome.TheVariants.{Stored, NanOrInf, OutOfRange, FloatOutOfRange}
-use Rattle.answers.specs.declared.Answer.{Answer}
 use Rattle.answers.specs.declared.Reply.{Reply}
 use Rattle.kinds.proofs.Listed.{by_any_code}
 use Rattle.cast_spec.specs.Element.{Entry, Settings, matches, lookup_of, found_or, converted, outcome_of}
@@ -43,6 +38,9 @@ use Rattle.cast_spec.proofs.Checks.{map_whole_lem, counts_meet_lem, long_written
 use Rattle.cast_spec.proofs.Counts.{converted_within}
 use Rattle.cast_spec.proofs.Sentences.{nan_stays}
 use Rattle.cast_spec.proofs.Steps.{no_map}
+use Rattle.answers.specs.Outcome.{Answer, Outcome, stored_as}
+use Rattle.answers.specs.declared.ElementRefusal.TheVariants.{FloatOutOfRange, NanOrInf, OutOfRange}
+use Rattle.std.specs.Prelude.{Err, Ok, Option, Some}
 
 -- ---- a NaN is one by the bits below its sign
 any_sign : (p w s : ℕ) (neg neg' : Bool) (x : ℕ) → float_value p w s neg x ≡ nan → float_value p w s neg' x ≡ nan
@@ -102,22 +100,22 @@ pub record StoredNans (k : Kind) (o o' : Outcome) : Type 0 where
   pub b : ℕ
   pub b' : ℕ
   pub fared : Fared
-  pub first : o ≡ Stored b fared
-  pub second : o' ≡ Stored b' fared
+  pub first : o ≡ stored_as b fared
+  pub second : o' ≡ stored_as b' fared
   pub nans : (value_of k b ≡ nan) × (value_of k b' ≡ nan)
 
 pub record RefusedNans (o o' : Outcome) : Type 0 where
   pub v : ℕ
   pub v' : ℕ
-  pub first : o ≡ NanOrInf v
-  pub second : o' ≡ NanOrInf v'
+  pub first : o ≡ Err (NanOrInf v)
+  pub second : o' ≡ Err (NanOrInf v')
   pub nans : (value_of f64 v ≡ nan) × (value_of f64 v' ≡ nan)
 
 abbrev Outcomes : Kind → Outcome → Outcome → Type 0
 Outcomes k o o' = (o ≡ o') ⊎ (StoredNans k o o' ⊎ RefusedNans o o')
 
-mapped_alike : (k : Kind) (a b : ℕ) → Alike k a b → Outcomes k (Stored a Mapped) (Stored b Mapped)
-mapped_alike k a b (inl e) = inl (ap (λ (z : ℕ). Stored z Mapped) e)
+mapped_alike : (k : Kind) (a b : ℕ) → Alike k a b → Outcomes k (stored_as a Mapped) (stored_as b Mapped)
+mapped_alike k a b (inl e) = inl (ap (λ (z : ℕ). stored_as z Mapped) e)
 mapped_alike k a b (inr h) = inr (inl (record { b = a; b' = b; fared = Mapped; first = refl; second = refl; nans = h }))
 
 module _ (from to : ℕ) (rule : RoundingMode) (choice : OutOfRangeMode) where
@@ -144,11 +142,11 @@ module _ (from to : ℕ) (rule : RoundingMode) (choice : OutOfRangeMode) where
     lookup_alike zero j hk ht v o o' h = h
     lookup_alike (suc n) j hk ht v o o' h =
         let l : j < j + suc n = omega arith in
-        subst (λ (x : Value). Outcomes (kind_of to) (found_or (lookup_of (kind_of from) v (entries_from sw dw ks ts j (suc n))) o) (found_or (cond (matches v x) (Found (pattern_at dw ts' j)) (lookup_of (kind_of from) v (entries_from sw dw ks' ts' (suc j) n))) o'))
+        subst (λ (x : Value). Outcomes (kind_of to) (found_or (lookup_of (kind_of from) v (entries_from sw dw ks ts j (suc n))) o) (found_or (cond (matches v x) (Some (pattern_at dw ts' j)) (lookup_of (kind_of from) v (entries_from sw dw ks' ts' (suc j) n))) o'))
         (same_value (kind_of from) (pattern_at sw ks j) (pattern_at sw ks' j) (hk j l))
         (go (matches v (value_of (kind_of from) (pattern_at sw ks j))) _ _ (mapped_alike (kind_of to) (pattern_at dw ts j) (pattern_at dw ts' j) (ht j l)) (lookup_alike n (suc j) (λ i m. hk i (omega arith)) (λ i m. ht i (omega arith)) v o o' h))
       where
-        go : (t : Bool) (l m : Lookup) {a b : ℕ} → Outcomes (kind_of to) (Stored a Mapped) (Stored b Mapped) → Outcomes (kind_of to) (found_or l o) (found_or m o') → Outcomes (kind_of to) (found_or (cond t (Found a) l) o) (found_or (cond t (Found b) m) o')
+        go : (t : Bool) (l m : Option ℕ) {a b : ℕ} → Outcomes (kind_of to) (stored_as a Mapped) (stored_as b Mapped) → Outcomes (kind_of to) (found_or l o) (found_or m o') → Outcomes (kind_of to) (found_or (cond t (Some a) l) o) (found_or (cond t (Some b) m) o')
         go true l m x y = x
         go false l m x y = y
 
@@ -172,10 +170,10 @@ module _ (k : Kind) (o o' : ℕ → Outcome) where
   answer_next_lem i x y r r' (inl e) h = subst (λ (z : Outcome). SameAnswer (answer_next x i r) (answer_next z i r')) e (go x)
     where
       go : (z : Outcome) → SameAnswer (answer_next z i r) (answer_next z i r')
-      go (Stored b _) = h
-      go (NanOrInf v) = inl refl
-      go (OutOfRange v lo hi) = inl refl
-      go (FloatOutOfRange v lo hi) = inl refl
+      go (Ok s) = h
+      go (Err (NanOrInf v)) = inl refl
+      go (Err (OutOfRange v lo hi)) = inl refl
+      go (Err (FloatOutOfRange v lo hi)) = inl refl
   answer_next_lem i x y r r' (inr (inl s)) h = subst (λ (z : Outcome). SameAnswer (answer_next z i r) (answer_next y i r')) (sym s.first) (subst (λ (z : Outcome). SameAnswer r (answer_next z i r')) (sym s.second) h)
   answer_next_lem i x y r r' (inr (inr s)) h = inr (record { position = i; value = s.v; other = s.v'; first = ap (λ (z : Outcome). answer_next z i r) s.first; second = ap (λ (z : Outcome). answer_next z i r') s.second; nans = s.nans })
 
@@ -215,10 +213,10 @@ module _ (k : Kind) (o o' : ℕ → Outcome) where
     bytes_next_lem n x y d d' r r' (inl e) h g = subst (λ (z : Outcome). Both (suc n) (bytes_next x w d r) (bytes_next z w d' r')) e (go x)
       where
         go : (z : Outcome) → Both (suc n) (bytes_next z w d r) (bytes_next z w d' r')
-        go (Stored b _) = put_both n b b r r' (inl refl) g
-        go (NanOrInf v) = h
-        go (OutOfRange v lo hi) = h
-        go (FloatOutOfRange v lo hi) = h
+        go (Ok s) = put_both n s.pattern s.pattern r r' (inl refl) g
+        go (Err (NanOrInf v)) = h
+        go (Err (OutOfRange v lo hi)) = h
+        go (Err (FloatOutOfRange v lo hi)) = h
     bytes_next_lem n x y d d' r r' (inr (inl s)) h g = subst (λ (z : Outcome). Both (suc n) (bytes_next z w d r) (bytes_next y w d' r')) (sym s.first) (subst (λ (z : Outcome). Both (suc n) (to_le w s.b ++ r) (bytes_next z w d' r')) (sym s.second) (put_both n s.b s.b' r r' (inr s.nans) g))
     bytes_next_lem n x y d d' r r' (inr (inr s)) h g = subst (λ (z : Outcome). Both (suc n) (bytes_next z w d r) (bytes_next y w d' r')) (sym s.first) (subst (λ (z : Outcome). Both (suc n) d (bytes_next z w d' r')) (sym s.second) h)
 
@@ -231,7 +229,7 @@ through : (cs : List Check) (x x' : Answer) → (T (all_pass cs) → SameAnswer 
 through [] x x' h = h tt
 through (c ∷ cs) x x' h = go c.passes h (through cs x x')
   where
-    go : (b : Bool) → (T (b && all_pass cs) → SameAnswer x x') → ((T (all_pass cs) → SameAnswer x x') → SameAnswer (tested cs x) (tested cs x')) → SameAnswer (cond b (tested cs x) c.refusal) (cond b (tested cs x') c.refusal)
+    go : (b : Bool) → (T (b && all_pass cs) → SameAnswer x x') → ((T (all_pass cs) → SameAnswer x x') → SameAnswer (tested cs x) (tested cs x')) → SameAnswer (cond b (tested cs x) (Err c.refusal)) (cond b (tested cs x') (Err c.refusal))
     go true h f = f h
     go false h f = inl refl
 

@@ -1,4 +1,5 @@
 -- What demand 1 and the counts' classes settle: whatever the inputs are, any two answers that meet them have one number, one set of values and one set of counts, and any two destinations of bytes are one.
+use Rattle.answers.specs.declared.Stored.{Stored}
 use mathlib.Core.Path.{◌≡◌, refl, sym, ap, subst, ◌∙◌}
 use mathlib.Core.Logic.{◌⊎◌, inl, inr, ⊎_elim}
 use mathlib.Core.Bool.{Bool, true, false, ◌&&◌}
@@ -15,7 +16,6 @@ use Rattle.bytes_le.proofs.Unique.{AreBytes, one_chunk}
 use Rattle.answers.specs.Answer.{number_of, names_position, leaves_all, values_of, position_of, outcome_values}
 use Rattle.answers.proofs.Numbers.{names_or_leaves, leaves_1_to_4_and_8}
 use Rattle.counts.specs.Counts.{count_of}
-use Rattle.answers.specs.declared.Answer.{Answer}
 use Rattle.counts.specs.declared.Counts.{Counts}
 use Rattle.counts.specs.declared.Fared.{Fared}
 use Rattle.cast_spec.specs.Chunk.{Inputs, Call, call_of, outcome_at, dw, codes_listed, wrap_permitted, map_whole, bytes_whole, counts_meet, converted_of}
@@ -23,6 +23,7 @@ use Rattle.cast_spec.specs.Counted.{Fares, HowMany, Counted}
 use Rattle.cast_spec.specs.Demand1.{ConvertedTo, Demand1}
 use Rattle.cast_spec.proofs.Checks.{elements_fill}
 use Rattle.grid.proofs.Neighbours.{cut}
+use Rattle.answers.specs.Outcome.{Answer}
 
 module _ (I : Inputs) where
   -- a refusal's cause is its own, so the other answer has the number too
@@ -76,7 +77,7 @@ none_fails true true true true true one eight two three four = tt
 module _ (I : Inputs) (r r' : Answer) (d d' : List ℕ) (D : Demand1 I r d) (D' : Demand1 I r' d') where
   -- an element that is converted in both has one pattern
   one_pattern : (i : ℕ) → ConvertedTo I d i → ConvertedTo I d' i → pattern_at (dw I) d i ≡ pattern_at (dw I) d' i
-  one_pattern i c c' = let e : c.pattern ≡ c'.pattern = cc in c.stored ∙ ap (λ (b : ℕ). b % 256 ^ dw I) e ∙ sym c'.stored
+  one_pattern i c c' = let h : ◌≡◌ {A = Stored} (record { pattern = c.pattern; fared = c.fared }) (record { pattern = c'.pattern; fared = c'.fared }) = cc in let e : c.pattern ≡ c'.pattern = ap (λ (s : Stored). s.pattern) h in c.stored ∙ ap (λ (b : ℕ). b % 256 ^ dw I) e ∙ sym c'.stored
 
   passed_with_0 : number_of r ≡ 0 → T (call_of I).passed
   unfolding call_of

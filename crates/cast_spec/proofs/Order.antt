@@ -15,8 +15,8 @@ use Rattle.cast_spec.specs.Element.{Settings}
 use Rattle.cast_spec.specs.Chunk.{Call}
 use Rattle.cast_spec.specs.Demand3.{Taken, Pick, RefusedBy, Kept, Handled, Rounded, Wraps, Wrapped, ◌≤ᵉ◌, Compared}
 use Rattle.answers.specs.Answer.{names_position}
-use Rattle.answers.specs.declared.Answer.{Answer}
 use Rattle.patterns.proofs.AnyKind.{high_zero, low_zero}
+use Rattle.answers.specs.Outcome.{Answer}
 
 -- ---- where a result that is neither refused nor wrapped lies
 abbrev low_end : Kind → Value

@@ -1,32 +1,24 @@
--- What a fit says of the outcome that it is of: a pattern is stored, and where there is none the element is refused.
-use mathlib.Core.Path.{◌≡◌, subst}
-use mathlib.Core.Logic.{⊎_elim}
-use mathlib.Core.List.{[], ◌∷◌}
+-- What a fit says of the outcome that it is of: what is stored, and where nothing is the element is refused.
+use mathlib.Core.Path.{◌≡◌}
 use Prim.Native.Nat.{ℕ}
 use native.Mathlib.Omega.{arith}
-use types.Run.{OneOf}
-use denote.Enum.Declared.{tag_of}
 use Rattle.counts.specs.declared.Fared.{Fared}
-use Rattle.answers.specs.declared.Fit.{Fit}
-use Rattle.answers.specs.declared.Fit.TheVariants.{Pattern}
-use Rattle.answers.specs.declared.Outcome.{Outcome}
-use Rattle.answers.specs.declared.Outcome.TheVariants.{Stored, NanOrInf, OutOfRange, FloatOutOfRange}
-use Rattle.answers.specs.contracts.Fit.{the_type}
 use Rattle.cast_spec.specs.Chunk.{Refuses}
 use Rattle.cast_spec.specs.Fit.{fit_of}
+use Rattle.answers.specs.Outcome.{Outcome, fit_as, stored_as}
+use Rattle.answers.specs.declared.ConversionError.{ConversionError}
+use Rattle.answers.specs.declared.ElementRefusal.TheVariants.{FloatOutOfRange, NanOrInf, OutOfRange}
+use Rattle.std.specs.Prelude.{Err, Ok}
 
-pub stored_pattern : (o : Outcome) (b : ℕ) (f : Fared) → fit_of o ≡ Pattern b f → o ≡ Stored b f
-stored_pattern (Stored a g) b f e = cc
-stored_pattern (NanOrInf v) b f e = let z : ◌≡◌ {A = ℕ} 0 1 = cc in absurd (omega arith)
-stored_pattern (OutOfRange v lo hi) b f e = let z : ◌≡◌ {A = ℕ} 0 1 = cc in absurd (omega arith)
-stored_pattern (FloatOutOfRange v lo hi) b f e = let z : ◌≡◌ {A = ℕ} 0 1 = cc in absurd (omega arith)
+pub stored_pattern : (o : Outcome) (b : ℕ) (f : Fared) → fit_of o ≡ fit_as b f → o ≡ stored_as b f
+stored_pattern (Ok s) b f e = cc
+stored_pattern (Err (NanOrInf v)) b f e = let z : ◌≡◌ {A = ℕ} 0 1 = cc in absurd (omega arith)
+stored_pattern (Err (OutOfRange v lo hi)) b f e = let z : ◌≡◌ {A = ℕ} 0 1 = cc in absurd (omega arith)
+stored_pattern (Err (FloatOutOfRange v lo hi)) b f e = let z : ◌≡◌ {A = ℕ} 0 1 = cc in absurd (omega arith)
 
--- no pattern, as a program tells it: by the number of the fit's variant
-pub refuses : (o : Outcome) (x : Fit) → x ≡ fit_of o → OneOf (1 ∷ 2 ∷ []) (tag_of the_type x) → Refuses o
-refuses o x e t = go o (subst (λ (f : Fit). OneOf (1 ∷ 2 ∷ []) (tag_of the_type f)) e t)
-  where
-    go : (o : Outcome) → OneOf (1 ∷ 2 ∷ []) (tag_of the_type (fit_of o)) → Refuses o
-    go (Stored b _) t = absurd (⊎_elim (λ (e : ◌≡◌ {A = ℕ} 0 1). omega arith) (λ (e : ◌≡◌ {A = ℕ} 0 2). omega arith) t)
-    go (NanOrInf v) t = tt
-    go (OutOfRange v lo hi) t = tt
-    go (FloatOutOfRange v lo hi) t = tt
+-- nothing is stored
+pub refuses : (o : Outcome) (x : ConversionError) → Err x ≡ fit_of o → Refuses o
+refuses (Ok s) x e = let z : ◌≡◌ {A = ℕ} 0 1 = cc in absurd (omega arith)
+refuses (Err (NanOrInf v)) x e = tt
+refuses (Err (OutOfRange v lo hi)) x e = tt
+refuses (Err (FloatOutOfRange v lo hi)) x e = tt

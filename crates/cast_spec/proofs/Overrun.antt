@@ -13,13 +13,12 @@ use Rattle.codes.specs.Codes.{range_of}
 use Rattle.answers.specs.Answer.{outcome_number}
 use Rattle.codes.specs.declared.OutOfRangeMode.{OutOfRangeMode}
 use Rattle.codes.specs.declared.OutOfRangeMode.TheVariants.{None, Clamp, Wrap}
-use Rattle.answers.specs.declared.Lookup.{Lookup}
-use Rattle.answers.specs.declared.Lookup.TheVariants.{Found, Missing}
-use Rattle.answers.specs.declared.Outcome.{Outcome}
 use Rattle.cast_spec.specs.Element.{Settings, lookup_of, found_or, in_range, beyond, converted, outcome_of}
 use Rattle.cast_spec.specs.Chunk.{Inputs, settings_of, call_of, outcome_at}
 use Rattle.cast_spec.proofs.Each.{WrapsFloat}
 use Rattle.cast_spec.proofs.Demand3.{no_float_wrapped}
+use Rattle.answers.specs.Outcome.{Outcome}
+use Rattle.std.specs.Prelude.{None, Option, Some}
 
 -- none, or wrap to a float
 abbrev NoneOrBarred : Kind → OutOfRangeMode → Type 0
@@ -49,9 +48,9 @@ outcome_7 : (S : Settings) (b : ℕ) → outcome_number (outcome_of S b) ≡ 7 �
 unfolding outcome_of
 outcome_7 S b e = go (lookup_of S.from (value_of S.from b) S.entries) e
   where
-    go : (l : Lookup) → outcome_number (found_or l (converted S b S.to (value_of S.from b))) ≡ 7 → NoneOrBarred S.to S.range
-    go (Found t) e = absurd (omega arith)
-    go Missing e = converted_7 S b S.to (value_of S.from b) e
+    go : (l : Option ℕ) → outcome_number (found_or l (converted S b S.to (value_of S.from b))) ≡ 7 → NoneOrBarred S.to S.range
+    go (Some t) e = absurd (omega arith)
+    go None e = converted_7 S b S.to (value_of S.from b) e
 
 none_is_0 : (g : ℕ) → range_of g ≡ None → g ≡ 0
 none_is_0 zero e = refl

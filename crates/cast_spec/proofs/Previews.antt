@@ -17,10 +17,7 @@ use Rattle.hamming.specs.Distance.{distance}
 use Rattle.hamming.proofs.Distances.{same_0, only_same_0, over_parts, at_most_front}
 use Rattle.counts.specs.declared.Counts.{Counts}
 use Rattle.answers.specs.Answer.{number_of, names_position, leaves_all, position_of}
-use Rattle.answers.specs.declared.Answer.{Answer}
-use Rattle.answers.specs.declared.Answer.TheVariants as A
-use Rattle.answers.specs.declared.Outcome.{Outcome}
-use Rattle.answers.specs.declared.Outcome.TheVariants.{Stored, NanOrInf, OutOfRange, FloatOutOfRange}
+use Rattle.answers.specs.declared.Refusal.TheVariants as A
 use Rattle.answers.specs.declared.Preview.{Preview}
 use Rattle.answers.specs.declared.Reply.{Reply}
 use Rattle.cast_spec.specs.Chunk.{Inputs, inputs, sw, dw, codes_listed, wrap_permitted, map_whole, Call, settings_of, call_of, outcome_at, answer_of, destination_of, converted_of, bytes_next, bytes_from}
@@ -30,6 +27,9 @@ use Rattle.cast_spec.specs.Preview.{preview_of, Changes, Previewed}
 use Rattle.cast_spec.proofs.Checks.{elements_fill, not_passed}
 use Rattle.cast_spec.proofs.Counts.{counted, miss}
 use Rattle.cast_spec.proofs.Demand1.{demand1}
+use Rattle.answers.specs.Outcome.{Answer, Outcome}
+use Rattle.answers.specs.declared.ElementRefusal.TheVariants.{FloatOutOfRange, NanOrInf, OutOfRange}
+use Rattle.std.specs.Prelude.{Err, Ok}
 
 -- ---- the distance of two rows is how many places differ
 places_below : (xs ys : List ℕ) → length xs ≡ length ys → (n : ℕ) → n ≤ length xs → HowMany (λ (j : ℕ). get_or xs j 0 ≢ get_or ys j 0) n (distance (take n xs) (take n ys))
@@ -85,17 +85,17 @@ module _ (I : Inputs) where
 
   -- behind them the bytes stay
   same_behind : (r : Answer) → answer_of I ≡ r → T (call_of I).passed → let k = converted_of (call_of I).count r * dw I in drop k I.destination ≡ drop k (destination_of I)
-  same_behind A.Converted e t =
+  same_behind (Ok tt) e t =
       ap (λ (k : ℕ). drop k I.destination) (elements_fill I t) ∙ drop-length I.destination
       ∙ sym (ap (λ (k : ℕ). drop k (destination_of I)) (elements_fill I t ∙ sym long) ∙ drop-length (destination_of I))
-  same_behind A.UnknownCode e t = untouched A.UnknownCode e tt (0 * dw I)
-  same_behind A.BrokenMap e t = untouched A.BrokenMap e tt (0 * dw I)
-  same_behind A.BrokenElement e t = untouched A.BrokenElement e tt (0 * dw I)
-  same_behind (A.LengthMismatch a b) e t = untouched (A.LengthMismatch a b) e tt (0 * dw I)
-  same_behind (A.NanOrInf j v) e t = from_position (A.NanOrInf j v) e tt
-  same_behind (A.OutOfRange j v lo hi) e t = from_position (A.OutOfRange j v lo hi) e tt
-  same_behind (A.FloatOutOfRange j v lo hi) e t = from_position (A.FloatOutOfRange j v lo hi) e tt
-  same_behind A.BarredWrap e t = untouched A.BarredWrap e tt (0 * dw I)
+  same_behind (Err A.UnknownCode) e t = untouched (Err A.UnknownCode) e tt (0 * dw I)
+  same_behind (Err A.BrokenMap) e t = untouched (Err A.BrokenMap) e tt (0 * dw I)
+  same_behind (Err A.BrokenElement) e t = untouched (Err A.BrokenElement) e tt (0 * dw I)
+  same_behind (Err (A.LengthMismatch a b)) e t = untouched (Err (A.LengthMismatch a b)) e tt (0 * dw I)
+  same_behind (Err (A.NanOrInf j v)) e t = from_position (Err (A.NanOrInf j v)) e tt
+  same_behind (Err (A.OutOfRange j v lo hi)) e t = from_position (Err (A.OutOfRange j v lo hi)) e tt
+  same_behind (Err (A.FloatOutOfRange j v lo hi)) e t = from_position (Err (A.FloatOutOfRange j v lo hi)) e tt
+  same_behind (Err A.BarredWrap) e t = untouched (Err A.BarredWrap) e tt (0 * dw I)
 
   pub at_most_written : (preview_of I).changed ≤ converted_of (call_of I).count (answer_of I) * dw I
   unfolding preview_of
@@ -112,10 +112,10 @@ module _ (o : ℕ → Outcome) (w : ℕ) where
   bytes_again (suc n) i d = go (o i) (bytes_from o w (suc i) n (drop w d)) (bytes_again n (suc i) (drop w d))
     where
       go : (x : Outcome) (r : List ℕ) → bytes_from o w (suc i) n r ≡ r → bytes_next x w (bytes_next x w d r) (bytes_from o w (suc i) n (drop w (bytes_next x w d r))) ≡ bytes_next x w d r
-      go (Stored b f) r e = ap (λ (z : List ℕ). to_le w b ++ bytes_from o w (suc i) n z) (drop_at (to_le w b) r w (length-to_le w b)) ∙ ap (λ (z : List ℕ). to_le w b ++ z) e
-      go (NanOrInf v) r e = refl
-      go (OutOfRange v lo hi) r e = refl
-      go (FloatOutOfRange v lo hi) r e = refl
+      go (Ok s) r e = ap (λ (z : List ℕ). to_le w s.pattern ++ bytes_from o w (suc i) n z) (drop_at (to_le w s.pattern) r w (length-to_le w s.pattern)) ∙ ap (λ (z : List ℕ). to_le w s.pattern ++ z) e
+      go (Err (NanOrInf v)) r e = refl
+      go (Err (OutOfRange v lo hi)) r e = refl
+      go (Err (FloatOutOfRange v lo hi)) r e = refl
 
 -- the inputs with another destination
 abbrev pub over : Inputs → List ℕ → Inputs

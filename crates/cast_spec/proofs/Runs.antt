@@ -12,13 +12,12 @@ use Rattle.counts.specs.OneMore.{counted}
 use Rattle.counts.specs.declared.Counts.{Counts}
 use Rattle.counts.specs.declared.Fared.{Fared}
 use Rattle.counts.specs.declared.Fared.TheVariants.{Mapped, Exact, Rounded, Clamped, Wrapped}
-use Rattle.answers.specs.declared.Outcome.{Outcome}
-use Rattle.answers.specs.declared.Outcome.TheVariants.{Stored, NanOrInf, OutOfRange, FloatOutOfRange}
 use Rattle.bytes_le.specs.Bytes.{to_le}
 use Rattle.cast_spec.specs.Chunk.{answer_next, answer_from, bytes_next, bytes_from, converted_of, fared_as, count_below, counts_below, Refuses}
 use Rattle.bytes_le.proofs.Sums.{length-to_le}
-use Rattle.answers.specs.declared.Answer.{Answer}
-use Rattle.answers.specs.declared.Answer.TheVariants as A
+use Rattle.answers.specs.Outcome.{Answer, Outcome, stored_as}
+use Rattle.answers.specs.declared.ElementRefusal.TheVariants.{FloatOutOfRange, NanOrInf, OutOfRange}
+use Rattle.std.specs.Prelude.{Err, Ok}
 
 -- the whole run's answer R and bytes W are those that the positions from i to before n give where d stands
 pub record Run (o : ℕ → Outcome) (w n : ℕ) (R : Answer) (W : List ℕ) (i : ℕ) (d : List ℕ) : Type 0 where
@@ -27,7 +26,7 @@ pub record Run (o : ℕ → Outcome) (w n : ℕ) (R : Answer) (W : List ℕ) (i 
 
 module _ (o : ℕ → Outcome) (w n : ℕ) (R : Answer) (W : List ℕ) where
   module _ (i : ℕ) (d : List ℕ) (run : Run o w n R W i d) where
-    pub done : i ≡ n → (A.Converted ≡ R) × (d ≡ W)
+    pub done : i ≡ n → ((Ok tt) ≡ R) × (d ≡ W)
     done e =
         let z : n - i ≡ 0 = omega arith in
         (sym (run.answer ∙ ap (answer_from o i) z), sym (run.bytes ∙ ap (λ (k : ℕ). take (i * w) d ++ bytes_from o w i k (drop (i * w) d)) z ∙ take-append-drop (i * w) d))
@@ -37,26 +36,26 @@ module _ (o : ℕ → Outcome) (w n : ℕ) (R : Answer) (W : List ℕ) where
       more = omega arith
 
       -- a refusal ends the run, with the destination as it stands
-      pub refused : Refuses (o i) → (R ≡ answer_next (o i) i A.Converted) × (d ≡ W)
+      pub refused : Refuses (o i) → (R ≡ answer_next (o i) i (Ok tt)) × (d ≡ W)
       refused r = (
         run.answer ∙ ap (answer_from o i) more ∙ either (o i) r,
         sym (run.bytes ∙ ap (λ (k : ℕ). take (i * w) d ++ bytes_from o w i k (drop (i * w) d)) more ∙ ap (λ (l : List ℕ). take (i * w) d ++ l) (stays (o i) r) ∙ take-append-drop (i * w) d),
       )
         where
-          either : (x : Outcome) → Refuses x → answer_next x i (answer_from o (suc i) (n - suc i)) ≡ answer_next x i A.Converted
-          either (Stored b _) r = absurd r
-          either (NanOrInf v) r = refl
-          either (OutOfRange v lo hi) r = refl
-          either (FloatOutOfRange v lo hi) r = refl
+          either : (x : Outcome) → Refuses x → answer_next x i (answer_from o (suc i) (n - suc i)) ≡ answer_next x i (Ok tt)
+          either (Ok s) r = absurd r
+          either (Err (NanOrInf v)) r = refl
+          either (Err (OutOfRange v lo hi)) r = refl
+          either (Err (FloatOutOfRange v lo hi)) r = refl
 
           stays : (x : Outcome) → Refuses x → bytes_next x w (drop (i * w) d) (bytes_from o w (suc i) (n - suc i) (drop w (drop (i * w) d))) ≡ drop (i * w) d
-          stays (Stored b _) r = absurd r
-          stays (NanOrInf v) r = refl
-          stays (OutOfRange v lo hi) r = refl
-          stays (FloatOutOfRange v lo hi) r = refl
+          stays (Ok s) r = absurd r
+          stays (Err (NanOrInf v)) r = refl
+          stays (Err (OutOfRange v lo hi)) r = refl
+          stays (Err (FloatOutOfRange v lo hi)) r = refl
 
       -- a stored element moves it on
-      pub kept : (b : ℕ) (f : Fared) (d' : List ℕ) → o i ≡ Stored b f → i * w + w ≤ length d → d' ≡ take (i * w) d ++ (to_le w b ++ drop w (drop (i * w) d)) → Run o w n R W (suc i) d'
+      pub kept : (b : ℕ) (f : Fared) (d' : List ℕ) → o i ≡ stored_as b f → i * w + w ≤ length d → d' ≡ take (i * w) d ++ (to_le w b ++ drop w (drop (i * w) d)) → Run o w n R W (suc i) d'
       kept b f d' e room is =
           let P = take (i * w) d in
           let B = to_le w b in
@@ -76,7 +75,7 @@ module _ (o : ℕ → Outcome) (w n : ℕ) (R : Answer) (W : List ℕ) where
           }
 
 -- ---- the counts of what is done
-pub one_more : (o : ℕ → Outcome) (n b : ℕ) (f : Fared) → o n ≡ Stored b f → counted f (counts_below o n) ≡ counts_below o (suc n)
+pub one_more : (o : ℕ → Outcome) (n b : ℕ) (f : Fared) → o n ≡ stored_as b f → counted f (counts_below o n) ≡ counts_below o (suc n)
 one_more o n b f e = go f ∙ ap (λ (x : Outcome). after x) (sym e)
   where
     next : Fared → Outcome → ℕ
@@ -85,7 +84,7 @@ one_more o n b f e = go f ∙ ap (λ (x : Outcome). after x) (sym e)
     after : Outcome → Counts
     after x = record { mapped = next Mapped x; exact = next Exact x; rounded = next Rounded x; clamped = next Clamped x; wrapped = next Wrapped x }
 
-    go : (f : Fared) → counted f (counts_below o n) ≡ after (Stored b f)
+    go : (f : Fared) → counted f (counts_below o n) ≡ after (stored_as b f)
     go Mapped = refl
     go Exact = refl
     go Rounded = refl
@@ -108,8 +107,8 @@ count_le o Clamped n = below_le o Clamped n
 count_le o Wrapped n = below_le o Wrapped n
 
 -- a refusal at i leaves i converted
-pub refused_converted : (n i : ℕ) (x : Outcome) → Refuses x → converted_of n (answer_next x i A.Converted) ≡ i
-refused_converted n i (Stored b _) r = absurd r
-refused_converted n i (NanOrInf v) r = refl
-refused_converted n i (OutOfRange v lo hi) r = refl
-refused_converted n i (FloatOutOfRange v lo hi) r = refl
+pub refused_converted : (n i : ℕ) (x : Outcome) → Refuses x → converted_of n (answer_next x i (Ok tt)) ≡ i
+refused_converted n i (Ok s) r = absurd r
+refused_converted n i (Err (NanOrInf v)) r = refl
+refused_converted n i (Err (OutOfRange v lo hi)) r = refl
+refused_converted n i (Err (FloatOutOfRange v lo hi)) r = refl

@@ -23,9 +23,9 @@ use Rattle.patterns.specs.Pattern.{as_f64, quiet, nan_pattern}
 use Rattle.patterns.proofs.Floats as floats
 use Rattle.patterns.proofs.Quiet.{quiet_lt}
 use Rattle.codes.specs.declared.OutOfRangeMode.{OutOfRangeMode}
-use Rattle.answers.specs.declared.Outcome.{Outcome}
 use Rattle.cast_spec.specs.Element.{Entry, Settings, found_or, lookup_of, outcome_of, ranged}
 use Rattle.cast_spec.proofs.Steps.{by_range}
+use Rattle.answers.specs.Outcome.{Outcome}
 
 -- "NaN to a float kind": a NaN's pattern in another float kind is a NaN
 pub nan_stays : (p w s p' w' s' b : ℕ) → p ≢ p' → 2 ≤ p' → 0 < w' → value_of (binary p' w' s') (nan_pattern (binary p w s) p' w' b) ≡ nan

@@ -14,21 +14,20 @@ use Rattle.patterns.specs.Value.{Value, nan, inf, num, negative, value_of}
 use Rattle.cast_spec.specs.Element.{Entry, Settings, matches, lookup_of, found_or, in_range, ranged, converted, outcome_of}
 use Rattle.patterns.specs.Pattern.{as_f64}
 use Rattle.codes.specs.declared.OutOfRangeMode.{OutOfRangeMode}
-use Rattle.answers.specs.declared.Lookup.{Lookup}
-use Rattle.answers.specs.declared.Lookup.TheVariants.{Found, Missing}
-use Rattle.answers.specs.declared.Outcome.{Outcome}
+use Rattle.answers.specs.Outcome.{Outcome}
+use Rattle.std.specs.Prelude.{None, Option, Some}
 
 -- ---- the map
-no_match : (k : Kind) (x : ℤ) (es : List Entry) → ((e : Entry) → Memᴰ e es → value_of k e.key ≡ num x → ⊥) → lookup_of k (num x) es ≡ Missing
+no_match : (k : Kind) (x : ℤ) (es : List Entry) → ((e : Entry) → Memᴰ e es → value_of k e.key ≡ num x → ⊥) → lookup_of k (num x) es ≡ None
 no_match k x [] h = refl
 no_match k x (e ∷ es) h = go (value_of k e.key) (h e (Memᴰ.head refl)) (no_match k x es (λ f m. h f (Memᴰ.tail m)))
   where
-    go : (v : Value) → (v ≡ num x → ⊥) → lookup_of k (num x) es ≡ Missing → cond (matches (num x) v) (Found e.target) (lookup_of k (num x) es) ≡ Missing
+    go : (v : Value) → (v ≡ num x → ⊥) → lookup_of k (num x) es ≡ None → cond (matches (num x) v) (Some e.target) (lookup_of k (num x) es) ≡ None
     go nan f rest = rest
     go (inf b) f rest = rest
     go (num y) f rest = by (le_z x y) (le_z y x) le_z_yes le_z_yes
       where
-        by : (c d : Bool) → (T c → x ≤ℤ y) → (T d → y ≤ℤ x) → cond (c && d) (Found e.target) (lookup_of k (num x) es) ≡ Missing
+        by : (c d : Bool) → (T c → x ≤ℤ y) → (T d → y ≤ℤ x) → cond (c && d) (Some e.target) (lookup_of k (num x) es) ≡ None
         by true true a b = let l = a tt in let m = b tt in absurd (f (ap num (→eq y x (omega ints))))
         by true false a b = rest
         by false true a b = rest
@@ -40,7 +39,7 @@ pub outcome_is : (S : Settings) (b : ℕ) (x : ℤ) → value_of S.from b ≡ nu
 unfolding outcome_of
 outcome_is S b x e h =
     ap {B = Outcome} (λ (v : Value). found_or (lookup_of S.from v S.entries) (converted S b S.to v)) e
-    ∙ ap (λ (l : Lookup). found_or l (converted S b S.to (num x))) (no_match S.from x S.entries h)
+    ∙ ap (λ (l : Option ℕ). found_or l (converted S b S.to (num x))) (no_match S.from x S.entries h)
 
 -- ---- a conversion does not look at the entries
 pub no_map : (from to : Kind) (rule : RoundingMode) (choice : OutOfRangeMode) (es : List Entry) (b : ℕ) (k : Kind) (v : Value)

@@ -17,11 +17,11 @@ use Rattle.codes.specs.declared.OutOfRangeMode.TheVariants.{None, Clamp, Wrap}
 use Rattle.cast_spec.specs.Element.{Settings}
 use Rattle.cast_spec.specs.Chunk.{Inputs, call_of, answer_of, destination_of, result_at}
 use Rattle.cast_spec.specs.Demand3.{Kept, Congruent, Handled, Rounded, Taken, Demand3}
-use Rattle.answers.specs.declared.Answer.{Answer}
 use Rattle.patterns.proofs.Integers.{add_parts, up_times, dn_times, low_in}
 use Rattle.patterns.proofs.AnyKind.{low_zero, high_zero, lowest_in, unit_pos}
 use Rattle.cast_spec.proofs.Order.{below_zero, above_zero, refused}
 use Rattle.cast_spec.proofs.Demand3.{good, to_is, demand3}
+use Rattle.answers.specs.Outcome.{Answer}
 
 -- ---- "that target's one number congruent to the pick modulo 2^N"
 module _ (M : ℕ) (y z z' t t' : ℤ) (p : y ≡ z +ℤ t *ℤ pos M) (q : y ≡ z' +ℤ t' *ℤ pos M) where

@@ -23,9 +23,9 @@ use Rattle.cast_spec.specs.Element.{Entry, beyond, outcome_of}
 use Rattle.patterns.specs.Pattern.{pattern_of}
 use Rattle.cast_spec.specs.Chunk.{Call, Reached, settings_of, call_of, outcome_at, Refuses}
 use Rattle.cast_spec.specs.Demand3.{Taken, RefusedBy, Kept, Congruent, Handled, ◌≤ᵉ◌, Demand3}
-use Rattle.answers.specs.declared.Answer.{Answer}
 use Rattle.cast_spec.proofs.Samples.{mixed}
 use Rattle.cast_spec.proofs.Strength.{one_number}
+use Rattle.answers.specs.Outcome.{Answer}
 
 -- 2.5, NaN, -0, 300, 100 to u8, with NaN mapped to 9 and 0 to 7, under the range codes 0 none, 1 clamp, 2 wrap
 abbrev call : ℕ → Call

@@ -1,5 +1,5 @@
 -- To be believed: the chunk call over its inputs alone: the checks, the answer, and every byte of the destination.
-use Rattle.std.specs.Prelude.{Bool, true, false, ◌&&◌, not, cond, List, [], ◌∷◌, ◌++◌, ℕ, zero, suc, ◌/◌, ◌%◌, ◌<◌, T, eqb, ltb, length, drop}
+use Rattle.std.specs.Prelude.{Bool, true, false, ◌&&◌, not, cond, List, [], ◌∷◌, ◌++◌, ℕ, zero, suc, ◌/◌, ◌%◌, ◌<◌, T, eqb, ltb, length, drop, Ok, Err}
 use Rattle.bytes_le.specs.Bytes.{to_le, pattern_at}
 use Rattle.patterns.specs.Kind.{width}
 use Rattle.patterns.specs.Value.{Value, value_of}
@@ -9,11 +9,11 @@ use Rattle.counts.specs.Counts.{place_of}
 use Rattle.counts.specs.declared.Counts.{Counts}
 use Rattle.counts.specs.declared.Fared.{Fared}
 use Rattle.counts.specs.declared.Fared.TheVariants.{Mapped, Exact, Rounded, Clamped, Wrapped}
-use Rattle.answers.specs.declared.Outcome.{Outcome}
-use Rattle.answers.specs.declared.Outcome.TheVariants.{Stored, NanOrInf, OutOfRange, FloatOutOfRange}
-use Rattle.answers.specs.declared.Answer.{Answer}
+use Rattle.answers.specs.declared.ElementRefusal.TheVariants.{NanOrInf, OutOfRange, FloatOutOfRange}
+use Rattle.answers.specs.declared.Refusal.{Refusal}
+use Rattle.answers.specs.declared.Refusal.TheVariants as A
+use Rattle.answers.specs.Outcome.{Outcome, Answer}
 use Rattle.cast_spec.specs.Element.{Entry, Settings, outcome_of}
-use Rattle.answers.specs.declared.Answer.TheVariants as A
 
 -- "Source, destination, map keys (source kind) and map targets (target kind) are bytes", and four codes
 pub record Inputs : Type 0 where
@@ -76,7 +76,7 @@ module _ (I : Inputs) where
 -- ---- the checks before the elements: each with whether it is passed, and the refusal where it is not
 pub record Check : Type 0 where
   pub passes : Bool
-  pub refusal : Answer
+  pub refusal : Refusal
 
 -- "Numbers 1 to 4 are tested in that order"; 8 "directly after 1"
 abbrev pub checks_of : Inputs → List Check
@@ -95,7 +95,7 @@ all_pass (c ∷ cs) = c.passes && all_pass cs
 -- the refusal of the first check that is not passed, or the elements' answer x
 abbrev pub tested : List Check → Answer → Answer
 tested [] x = x
-tested (c ∷ cs) x = cond c.passes (tested cs x) c.refusal
+tested (c ∷ cs) x = cond c.passes (tested cs x) (Err c.refusal)
 
 -- ---- a call that converts patterns in order, whatever its route: over bytes, or over typed slices
 pub record Call : Type 0 where
@@ -117,10 +117,10 @@ unfoldable pub outcome_at : Call → ℕ → Outcome
 outcome_at c i = outcome_of c.settings (c.element i)
 
 abbrev pub Refuses : Outcome → Type 0
-Refuses (Stored b f) = ⊥
-Refuses (NanOrInf v) = Unit {0}
-Refuses (OutOfRange v lo hi) = Unit {0}
-Refuses (FloatOutOfRange v lo hi) = Unit {0}
+Refuses (Ok s) = ⊥
+Refuses (Err (NanOrInf v)) = Unit {0}
+Refuses (Err (OutOfRange v lo hi)) = Unit {0}
+Refuses (Err (FloatOutOfRange v lo hi)) = Unit {0}
 
 -- "The call reaches an element when the input passes every check that comes before the elements, and the element steps above refuse no element
 -- before it in the order of conversion; what the program answers plays no part in this."
@@ -133,14 +133,14 @@ pub record Reached (c : Call) (i : ℕ) : Type 0 where
 
 -- a refusal at i, or the answer of the rest
 abbrev pub answer_next : Outcome → ℕ → Answer → Answer
-answer_next (Stored b f) i rest = rest
-answer_next (NanOrInf v) i rest = A.NanOrInf i v
-answer_next (OutOfRange v lo hi) i rest = A.OutOfRange i v lo hi
-answer_next (FloatOutOfRange v lo hi) i rest = A.FloatOutOfRange i v lo hi
+answer_next (Ok s) i rest = rest
+answer_next (Err (NanOrInf v)) i rest = Err (A.NanOrInf i v)
+answer_next (Err (OutOfRange v lo hi)) i rest = Err (A.OutOfRange i v lo hi)
+answer_next (Err (FloatOutOfRange v lo hi)) i rest = Err (A.FloatOutOfRange i v lo hi)
 
 -- of n outcomes from the position i on
 abbrev pub answer_from : (ℕ → Outcome) → ℕ → ℕ → Answer
-answer_from o i zero = A.Converted
+answer_from o i zero = Ok tt
 answer_from o i (suc n) = answer_next (o i) i (answer_from o (suc i) n)
 
 unfoldable pub answer_of : Inputs → Answer
@@ -150,10 +150,10 @@ answer_of I = tested (checks_of I) (answer_from (outcome_at (call_of I)) 0 (call
 
 -- d is what stands from here on, and rest what then follows a stored element
 abbrev pub bytes_next : Outcome → ℕ → List ℕ → List ℕ → List ℕ
-bytes_next (Stored b f) w d rest = to_le w b ++ rest
-bytes_next (NanOrInf v) w d rest = d
-bytes_next (OutOfRange v lo hi) w d rest = d
-bytes_next (FloatOutOfRange v lo hi) w d rest = d
+bytes_next (Ok s) w d rest = to_le w s.pattern ++ rest
+bytes_next (Err (NanOrInf v)) w d rest = d
+bytes_next (Err (OutOfRange v lo hi)) w d rest = d
+bytes_next (Err (FloatOutOfRange v lo hi)) w d rest = d
 
 -- n elements of w bytes from the position i on, where d stands
 abbrev pub bytes_from : (ℕ → Outcome) → ℕ → ℕ → ℕ → List ℕ → List ℕ
@@ -168,22 +168,22 @@ destination_of I = cond (call_of I).passed (bytes_from (outcome_at (call_of I)) 
 
 -- "Their sum is the number of elements converted, also when a refusal ends the chunk": of n elements all, those before the refused one, or none
 abbrev pub converted_of : ℕ → Answer → ℕ
-converted_of n A.Converted = n
-converted_of n A.UnknownCode = 0
-converted_of n A.BrokenMap = 0
-converted_of n A.BrokenElement = 0
-converted_of n (A.LengthMismatch s d) = 0
-converted_of n (A.NanOrInf i v) = i
-converted_of n (A.OutOfRange i v lo hi) = i
-converted_of n (A.FloatOutOfRange i v lo hi) = i
-converted_of n A.BarredWrap = 0
+converted_of n (Ok all) = n
+converted_of n (Err A.UnknownCode) = 0
+converted_of n (Err A.BrokenMap) = 0
+converted_of n (Err A.BrokenElement) = 0
+converted_of n (Err (A.LengthMismatch s d)) = 0
+converted_of n (Err (A.NanOrInf i v)) = i
+converted_of n (Err (A.OutOfRange i v lo hi)) = i
+converted_of n (Err (A.FloatOutOfRange i v lo hi)) = i
+converted_of n (Err A.BarredWrap) = 0
 
 -- whether an element is stored that fared as f
 abbrev pub fared_as : Fared → Outcome → Bool
-fared_as f (Stored b g) = eqb (place_of f) (place_of g)
-fared_as f (NanOrInf v) = false
-fared_as f (OutOfRange v lo hi) = false
-fared_as f (FloatOutOfRange v lo hi) = false
+fared_as f (Ok s) = eqb (place_of f) (place_of s.fared)
+fared_as f (Err (NanOrInf v)) = false
+fared_as f (Err (OutOfRange v lo hi)) = false
+fared_as f (Err (FloatOutOfRange v lo hi)) = false
 
 -- how many are, of the positions below n
 abbrev pub count_below : (ℕ → Outcome) → Fared → ℕ → ℕ

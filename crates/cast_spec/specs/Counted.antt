@@ -5,13 +5,13 @@ use Rattle.grid.specs.Pick.{IsPick}
 use Rattle.patterns.specs.Kind.{grid_of, InRange}
 use Rattle.patterns.specs.Value.{Value, num, value_of}
 use Rattle.counts.specs.Counts.{count_of}
-use Rattle.answers.specs.declared.Answer.{Answer}
 use Rattle.counts.specs.declared.Counts.{Counts}
 use Rattle.counts.specs.declared.Fared.{Fared}
 use Rattle.counts.specs.declared.Fared.TheVariants.{Mapped, Exact, Rounded, Clamped, Wrapped}
 use Rattle.codes.specs.declared.OutOfRangeMode.TheVariants.{Clamp, Wrap}
 use Rattle.cast_spec.specs.Element.{Entry, matches}
 use Rattle.cast_spec.specs.Chunk.{Call, converted_of}
+use Rattle.answers.specs.Outcome.{Answer}
 
 module _ (c : Call) where
   abbrev pub value_at : ℕ → Value

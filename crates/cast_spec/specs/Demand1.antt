@@ -3,15 +3,14 @@ use Rattle.std.specs.Prelude.{◌≡◌, ◌↔◌, ◌≢◌, true, false, List
 use Rattle.bytes_le.specs.Bytes.{pattern_at}
 use Rattle.answers.specs.Answer.{number_of, names_position, leaves_all, no_values, both_counts, values_of, position_of, outcome_number, outcome_values}
 use Rattle.counts.specs.declared.Fared.{Fared}
-use Rattle.answers.specs.declared.Outcome.TheVariants.{Stored}
-use Rattle.answers.specs.declared.Answer.{Answer}
 use Rattle.cast_spec.specs.Chunk.{Inputs, call_of, outcome_at, Reached, sw, dw, codes_listed, wrap_permitted, map_whole, bytes_whole, counts_meet}
+use Rattle.answers.specs.Outcome.{Answer, stored_as}
 
 -- the element at i is converted: its steps store the pattern that its place in d holds
 pub record ConvertedTo (I : Inputs) (d : List ℕ) (i : ℕ) : Type 0 where
   pub pattern : ℕ
   pub fared : Fared
-  pub outcome : outcome_at (call_of I) i ≡ Stored pattern fared
+  pub outcome : outcome_at (call_of I) i ≡ stored_as pattern fared
   pub stored : pattern_at (dw I) d i ≡ pattern % 256 ^ dw I
 
 pub record Demand1 (I : Inputs) (r : Answer) (d : List ℕ) : Type 0 where

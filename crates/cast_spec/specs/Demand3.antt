@@ -9,7 +9,7 @@ use Rattle.codes.specs.declared.OutOfRangeMode.TheVariants.{None, Clamp, Wrap}
 use Rattle.cast_spec.specs.Element.{Entry, Settings}
 use Rattle.cast_spec.specs.Chunk.{Call, Reached}
 use Rattle.answers.specs.Answer.{number_of, names_position, position_of}
-use Rattle.answers.specs.declared.Answer.{Answer}
+use Rattle.answers.specs.Outcome.{Answer}
 
 -- ---- "any element that the call reaches, finite and matched by no map entry": all by the inputs alone
 

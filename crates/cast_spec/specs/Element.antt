@@ -1,5 +1,5 @@
 -- To be believed: one element: "Map; then, for a float going to an integer kind, refusal 5 if it is NaN or infinite; then rounding; then range."
-use Rattle.std.specs.Prelude.{Bool, true, false, ◌&&◌, cond, List, [], ◌∷◌, ℕ, ◌-◌, ℤ}
+use Rattle.std.specs.Prelude.{Bool, true, false, ◌&&◌, cond, List, [], ◌∷◌, ℕ, ◌-◌, ℤ, Option, Some, None, Err}
 use Rattle.std.specs.Bool.{beq}
 use Rattle.std.specs.Int.Signed.{lt_z, le_z}
 use Rattle.grid.specs.Round.{pick}
@@ -11,11 +11,9 @@ use Rattle.patterns.specs.Pattern.{pattern_of, infinity, nan_pattern, as_f64}
 use Rattle.counts.specs.Counts.{by_pick}
 use Rattle.counts.specs.declared.Fared.TheVariants.{Mapped, Exact, Clamped, Wrapped}
 use Rattle.codes.specs.declared.OutOfRangeMode.{OutOfRangeMode}
-use Rattle.codes.specs.declared.OutOfRangeMode.TheVariants.{None, Clamp, Wrap}
-use Rattle.answers.specs.declared.Lookup.{Lookup}
-use Rattle.answers.specs.declared.Lookup.TheVariants.{Found, Missing}
-use Rattle.answers.specs.declared.Outcome.{Outcome}
-use Rattle.answers.specs.declared.Outcome.TheVariants.{Stored, NanOrInf, OutOfRange, FloatOutOfRange}
+use Rattle.codes.specs.declared.OutOfRangeMode.TheVariants as R
+use Rattle.answers.specs.declared.ElementRefusal.TheVariants.{NanOrInf, OutOfRange, FloatOutOfRange}
+use Rattle.answers.specs.Outcome.{Outcome, stored_as}
 
 -- a map entry: the patterns of a key of the source kind and of a target of the target kind
 pub record Entry : Type 0 where
@@ -44,14 +42,14 @@ matches (num x) (inf b) = false
 matches (num x) (num y) = le_z x y && le_z y x
 
 -- "The first matching entry wins."
-abbrev pub lookup_of : Kind → Value → List Entry → Lookup
-lookup_of k v [] = Missing
-lookup_of k v (e ∷ es) = cond (matches v (value_of k e.key)) (Found e.target) (lookup_of k v es)
+abbrev pub lookup_of : Kind → Value → List Entry → Option ℕ
+lookup_of k v [] = None
+lookup_of k v (e ∷ es) = cond (matches v (value_of k e.key)) (Some e.target) (lookup_of k v es)
 
 -- "The target is handed out unchanged and is not range-checked." o is the outcome where no entry matches
-abbrev pub found_or : Lookup → Outcome → Outcome
-found_or (Found t) o = Stored t Mapped
-found_or Missing o = o
+abbrev pub found_or : Option ℕ → Outcome → Outcome
+found_or (Some t) o = stored_as t Mapped
+found_or None o = o
 
 -- ---- range
 
@@ -65,33 +63,33 @@ nearer_end k y = cond (lt_z y (lowest k)) (lowest k) (highest k)
 
 -- "position, value, -MAX, MAX": the patterns just before the infinities
 abbrev pub overrun : Kind → ℕ → ℕ → ℕ → Outcome
-overrun k p w v = FloatOutOfRange v (as_f64 k (infinity p w true - 1)) (as_f64 k (infinity p w false - 1))
+overrun k p w v = Err (FloatOutOfRange v (as_f64 k (infinity p w true - 1)) (as_f64 k (infinity p w false - 1)))
 
 -- a pick y past the range, of an element with the f64 value v and the sign neg.
 -- "Range code 0 .. then refuses the element; 1 clamps it; 2 with an integer target wraps it". A float's clamp "gives the infinity of the element's sign".
 -- "Settings with range code 2 and a float target shall be turned down": no call that passes its checks asks the last line. It makes the steps total, and is
 -- the Rust's.
 unfoldable pub beyond : Kind → OutOfRangeMode → ℕ → Bool → ℤ → Outcome
-beyond (integer s n) None v neg y = OutOfRange v (low_int s n) (high_int s n)
-beyond (integer s n) Clamp v neg y = Stored (pattern_of (integer s n) neg (nearer_end (integer s n) y)) Clamped
-beyond (integer s n) Wrap v neg y = Stored (pattern_of (integer s n) neg y) Wrapped
-beyond (binary p w s) None v neg y = overrun (binary p w s) p w v
-beyond (binary p w s) Clamp v neg y = Stored (infinity p w neg) Clamped
-beyond (binary p w s) Wrap v neg y = overrun (binary p w s) p w v
+beyond (integer s n) R.None v neg y = Err (OutOfRange v (low_int s n) (high_int s n))
+beyond (integer s n) R.Clamp v neg y = stored_as (pattern_of (integer s n) neg (nearer_end (integer s n) y)) Clamped
+beyond (integer s n) R.Wrap v neg y = stored_as (pattern_of (integer s n) neg y) Wrapped
+beyond (binary p w s) R.None v neg y = overrun (binary p w s) p w v
+beyond (binary p w s) R.Clamp v neg y = stored_as (infinity p w neg) Clamped
+beyond (binary p w s) R.Wrap v neg y = overrun (binary p w s) p w v
 
 -- the pick y of an element x. "a zero result keeps a float element's sign": neg is that of the element
 abbrev pub ranged : Kind → OutOfRangeMode → ℕ → Bool → ℤ → ℤ → Outcome
-ranged k r v neg x y = cond (in_range k y) (Stored (pattern_of k neg y) (by_pick (ternary_of x y))) (beyond k r v neg y)
+ranged k r v neg x y = cond (in_range k y) (stored_as (pattern_of k neg y) (by_pick (ternary_of x y))) (beyond k r v neg y)
 
 -- ---- the steps
 
 -- an element of the pattern b and the value v that no entry matches; "infinities pass" to a float kind, "a NaN or infinity carried to a float is exact"
 abbrev pub converted : Settings → ℕ → Kind → Value → Outcome
 converted S b k (num x) = ranged k S.range (as_f64 S.from b) (negative S.from b) x (pick (grid_of k) S.rule x)
-converted S b (integer s n) (inf neg) = NanOrInf (as_f64 S.from b)
-converted S b (integer s n) nan = NanOrInf (as_f64 S.from b)
-converted S b (binary p w s) (inf neg) = Stored (infinity p w neg) Exact
-converted S b (binary p w s) nan = Stored (nan_pattern S.from p w b) Exact
+converted S b (integer s n) (inf neg) = Err (NanOrInf (as_f64 S.from b))
+converted S b (integer s n) nan = Err (NanOrInf (as_f64 S.from b))
+converted S b (binary p w s) (inf neg) = stored_as (infinity p w neg) Exact
+converted S b (binary p w s) nan = stored_as (nan_pattern S.from p w b) Exact
 
 unfoldable pub outcome_of : Settings → ℕ → Outcome
 outcome_of S b = let v = value_of S.from b in found_or (lookup_of S.from v S.entries) (converted S b S.to v)

@@ -4,10 +4,11 @@ use Rattle.bytes_le.specs.Bytes.{pattern_at}
 use Rattle.patterns.specs.Kind.{Kind, f64}
 use Rattle.patterns.specs.Value.{nan, value_of}
 use Rattle.kinds.specs.Table.{kind_of}
-use Rattle.answers.specs.declared.Answer.{Answer}
-use Rattle.answers.specs.declared.Answer.TheVariants as A
+use Rattle.answers.specs.declared.Refusal.TheVariants as A
 use Rattle.answers.specs.declared.Reply.{Reply}
 use Rattle.cast_spec.specs.Chunk.{Inputs, inputs, sw, dw, answer_of, counts_of, destination_of}
+use Rattle.answers.specs.Outcome.{Answer}
+use Rattle.std.specs.Prelude.{Err}
 
 -- two patterns of a kind stand for one element: they are equal, or each is a NaN's
 abbrev pub Alike : Kind → ℕ → ℕ → Type 0
@@ -31,8 +32,8 @@ pub record BothNan (r a : Answer) : Type 0 where
   pub position : ℕ
   pub value : ℕ
   pub other : ℕ
-  pub first : r ≡ A.NanOrInf position value
-  pub second : a ≡ A.NanOrInf position other
+  pub first : r ≡ Err (A.NanOrInf position value)
+  pub second : a ≡ Err (A.NanOrInf position other)
   pub nans : (value_of f64 value ≡ nan) × (value_of f64 other ≡ nan)
 
 abbrev pub SameAnswer : Answer → Answer → Type 0

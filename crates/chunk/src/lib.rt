@@ -6,7 +6,6 @@ ghost use Rattle.cast_spec.specs.Contract.{Contract};
 ghost use Rattle.cast_spec.specs.Preview.{Previewed};
 
 use answers::{Preview, Reply};
-use chunk_checks::Checked;
 
 // Converts a chunk. A refusal 1 to 4 or 8 leaves the destination as it was; 5 to 7 leave it so from the refused element on.
 pub fn convert(
@@ -22,10 +21,8 @@ pub fn convert(
     ensures { Contract (inputs src.now dst.old keys.now targets.now from to rounding range) result dst.new }
 {
     match chunk_checks::check(src, dst, keys, targets, from, to, rounding, range) {
-        Checked::Refused(answer) => replies::refused(answer),
-        Checked::Passed { settings, count } => {
-            chunk_run::run(src, dst, keys, targets, settings, count)
-        }
+        Ok(call) => chunk_run::run(src, dst, keys, targets, call.settings, call.count),
+        Err(refusal) => replies::refused(Err(refusal)),
     }
 }
 
@@ -43,12 +40,10 @@ pub fn preview(
     ensures { Previewed (inputs src.now dst.now keys.now targets.now from to rounding range) result }
 {
     match chunk_checks::check(src, dst, keys, targets, from, to, rounding, range) {
-        Checked::Refused(answer) => Preview {
-            reply: replies::refused(answer),
+        Ok(call) => chunk_preview::preview(src, dst, keys, targets, call.settings, call.count),
+        Err(refusal) => Preview {
+            reply: replies::refused(Err(refusal)),
             changed: 0,
         },
-        Checked::Passed { settings, count } => {
-            chunk_preview::preview(src, dst, keys, targets, settings, count)
-        }
     }
 }

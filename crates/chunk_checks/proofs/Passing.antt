@@ -3,58 +3,61 @@ use mathlib.Core.Path.{◌≡◌, refl, sym, ap, ap₂, subst, ◌∙◌}
 use mathlib.Core.Bool.{Bool, true, false, ◌&&◌, cond}
 use Prim.Native.Nat.{ℕ, ◌/◌, ◌<◌, ◌*◌, ◌%◌}
 use lib.Dec.{T, eqb, eqb→eq}
+use mathlib.Core.List.{List, [], ◌∷◌}
+use native.Mathlib.Omega.{arith}
 use lib.ListN.{length}
-use Rattle.cast_spec.specs.Chunk.{Inputs, sw, dw, codes_listed, checks_of, all_pass, tested, call_of, settings_of}
+use Rattle.cast_spec.specs.Chunk.{Inputs, sw, dw, codes_listed, Check, checks_of, all_pass, tested, call_of, settings_of}
 use Rattle.cast_spec.specs.Element as E
-use Rattle.cast_spec.proofs.Checks.{map_whole_lem, whole_length}
+use Rattle.cast_spec.proofs.Checks.{map_whole_lem, tested_pass, whole_length}
 use Rattle.cast_spec.proofs.Refusals.{RefusedBy}
 use Rattle.cast_spec.proofs.Widths.{listed_width, width_bits}
 use Rattle.codes.specs.Codes.{range_of, rounding_of}
-use Rattle.answers.specs.declared.Answer.{Answer}
-use Rattle.answers.specs.declared.Answer.TheVariants.{Converted}
 use Rattle.kinds.proofs.Listed.{format_row, kind_back}
 use Rattle.codes.proofs.Listed.{listed_kinds}
 use Rattle.grid.proofs.Tests.{both, parts}
 use Rattle.patterns.specs.Kind.{Kind, bits}
-use Rattle.chunk_element.specs.declared.Settings.{Settings}
 use Rattle.chunk_element.specs.Settings.{MapReady, Ready, settings_for}
 use Rattle.chunk_checks.specs.declared.Checked.{Checked}
-use Rattle.chunk_checks.specs.declared.Checked.TheVariants.{Refused, Passed}
-use Rattle.chunk_checks.specs.Checked.{settings_from, checked_of}
+use Rattle.chunk_checks.specs.Checked.{settings_from, with_settings, checked_of}
+use Rattle.answers.specs.Outcome.{Answer}
+use Rattle.std.specs.Prelude.{Ok, Err}
+use Rattle.answers.specs.declared.Refusal.{Refusal}
 
 -- ---- which of the two it is
-answer_in : Checked → Answer
-answer_in (Refused a) = a
-answer_in (Passed s n) = Converted
-
-settings_in : Settings → Checked → Settings
-settings_in s (Refused a) = s
-settings_in s (Passed t n) = t
-
-count_in : Checked → ℕ
-count_in (Refused a) = 0
-count_in (Passed s n) = n
-
-is_passed : Checked → Bool
-is_passed (Refused a) = false
-is_passed (Passed s n) = true
+-- no refusal comes where every check is passed, and nowhere else
+all_passed : (cs : List Check) → tested cs (Ok tt) ≡ Ok tt → all_pass cs ≡ true
+all_passed [] e = refl
+all_passed (c ∷ cs) e = go c.passes (all_passed cs) e
+  where
+    go : (b : Bool) → (tested cs (Ok tt) ≡ Ok tt → all_pass cs ≡ true) → cond b (tested cs (Ok tt)) (Err c.refusal) ≡ Ok tt → b && all_pass cs ≡ true
+    go true f e = f e
+    go false f e = let z : ◌≡◌ {A = ℕ} 0 1 = cc in absurd (omega arith)
 
 module _ (I : Inputs) where
-  either : (b : Bool) → is_passed (cond b (Passed (settings_from I) (call_of I).count) (Refused (tested (checks_of I) Converted))) ≡ b
-  unfolding is_passed
-  either true = refl
-  either false = refl
+  refusal_back : (a : Answer) (r : Refusal) → with_settings I a ≡ Err r → a ≡ Err r
+  refusal_back (Ok all) r e = let z : ◌≡◌ {A = ℕ} 0 1 = cc in absurd (omega arith)
+  refusal_back (Err q) r e = cc
 
-  pub refused_is : (a : Answer) → checked_of I ≡ Refused a → RefusedBy I a
-  unfolding checked_of is_passed answer_in
-  refused_is a e = let f = sym (either (all_pass (checks_of I))) ∙ ap is_passed e in (f, ap (λ (b : Bool). answer_in (cond b (Passed (settings_from I) (call_of I).count) (Refused (tested (checks_of I) Converted)))) (sym f) ∙ ap answer_in e)
+  pub refused_is : (r : Refusal) → checked_of I ≡ Err r → RefusedBy I (Err r)
+  unfolding checked_of
+  refused_is r e = (fails (all_pass (checks_of I)) refl, back)
+    where
+      back : tested (checks_of I) (Ok tt) ≡ Err r
+      back = refusal_back (tested (checks_of I) (Ok tt)) r e
 
-  pub passed_is : (t : Settings) (m : ℕ) → checked_of I ≡ Passed t m → (all_pass (checks_of I) ≡ true) × (t ≡ settings_from I) × (m ≡ (call_of I).count)
-  unfolding checked_of is_passed settings_in count_in
-  passed_is t m e =
-      let f = sym (either (all_pass (checks_of I))) ∙ ap is_passed e in
-      let g : Passed t m ≡ Passed (settings_from I) (call_of I).count = sym e ∙ ap (λ (b : Bool). cond b (Passed (settings_from I) (call_of I).count) (Refused (tested (checks_of I) Converted))) f in
-      (f, ap (settings_in (settings_from I)) g, ap count_in g)
+      fails : (b : Bool) → all_pass (checks_of I) ≡ b → all_pass (checks_of I) ≡ false
+      fails true p = let f : ◌≡◌ {A = Answer} (Ok tt) (Err r) = sym (tested_pass (checks_of I) (Ok tt) (subst T (sym p) tt)) ∙ back in let z : ◌≡◌ {A = ℕ} 0 1 = cc in absurd (omega arith)
+      fails false p = p
+
+  settings_back : (a : Answer) (s : Checked) → with_settings I a ≡ Ok s → (a ≡ Ok tt) × (s ≡ record { settings = settings_from I; count = (call_of I).count })
+  settings_back (Ok all) s e = (refl, cc)
+  settings_back (Err q) s e = let z : ◌≡◌ {A = ℕ} 0 1 = cc in absurd (omega arith)
+
+  pub passed_is : (s : Checked) → checked_of I ≡ Ok s → (all_pass (checks_of I) ≡ true) × (s.settings ≡ settings_from I) × (s.count ≡ (call_of I).count)
+  unfolding checked_of
+  passed_is s e =
+      let f = settings_back (tested (checks_of I) (Ok tt)) s e in
+      (all_passed (checks_of I) f.0, ap (λ (c : Checked). c.settings) f.1, ap (λ (c : Checked). c.count) f.1)
 
 -- ---- a call that passes
 module _ (I : Inputs) (pass : all_pass (checks_of I) ≡ true) where

@@ -5,17 +5,17 @@ ghost use Rattle.std.specs.Prelude.{◌≡◌};
 ghost use Rattle.cast_spec.specs.Chunk.{inputs};
 ghost use Rattle.chunk_checks.specs.Checked.{checked_of};
 
-use answers::Answer;
+use answers::Refusal;
 use chunk_element::Settings;
 
-// What the checks come to: the refusal of the first that is not passed, or the call's settings and how many elements it has.
+// A call that passes its checks: its settings, and how many elements it has.
 #[derive(Clone, Copy)]
-pub enum Checked {
-    Refused(Answer),
-    Passed { settings: Settings, count: usize },
+pub struct Checked {
+    pub settings: Settings,
+    pub count: usize,
 }
 
-// The checks of a call, in the order of their table: 1, 8, 2, 3, 4. They look at no byte of the four slices.
+// The checks of a call, in the order of their table: 1, 8, 2, 3, 4. The first that is not passed refuses it. They look at no byte of the four slices.
 pub fn check(
     src: &[u8],
     dst: &[u8],
@@ -25,32 +25,32 @@ pub fn check(
     to: u8,
     rounding: u8,
     range: u8,
-) -> Checked
+) -> Result<Checked, Refusal>
     ensures { result ≡ checked_of (inputs src.now dst.now keys.now targets.now from to rounding range) }
 {
     if !codes::codes_listed(from, to, rounding, range) {
-        return Checked::Refused(Answer::UnknownCode);
+        return Err(Refusal::UnknownCode);
     }
     if codes::wrap_barred(to, range) {
-        return Checked::Refused(Answer::BarredWrap);
+        return Err(Refusal::BarredWrap);
     }
     let s = chunk_settings::settings_of(from, to, rounding, range, keys.len());
     if !lengths::whole_map(keys.len(), targets.len(), s.sw, s.dw) {
-        return Checked::Refused(Answer::BrokenMap);
+        return Err(Refusal::BrokenMap);
     }
     if !lengths::whole_elements(src.len(), dst.len(), s.sw, s.dw) {
-        return Checked::Refused(Answer::BrokenElement);
+        return Err(Refusal::BrokenElement);
     }
     let n = src.len() / s.sw;
     let m = dst.len() / s.dw;
     if n != m {
-        return Checked::Refused(Answer::LengthMismatch {
+        return Err(Refusal::LengthMismatch {
             src_len: n,
             dst_len: m,
         });
     }
-    Checked::Passed {
+    Ok(Checked {
         settings: s,
         count: n,
-    }
+    })
 }

@@ -13,11 +13,6 @@ use Rattle.kinds.specs.Row.{kind_in, FormatRow}
 use Rattle.kinds.specs.declared.Format.{Format}
 use Rattle.kinds.specs.declared.Format.TheVariants.{Integer, Float}
 use Rattle.kinds.specs.declared.IntegerFormat.{IntegerFormat}
-use Rattle.answers.specs.declared.Lookup.{Lookup}
-use Rattle.answers.specs.declared.Lookup.TheVariants.{Missing}
-use Rattle.answers.specs.declared.Outcome.{Outcome}
-use Rattle.answers.specs.declared.Fit.{Fit}
-use Rattle.answers.specs.declared.Answer.TheVariants.{Converted}
 use Rattle.cast_spec.specs.Element.{found_or, lookup_of, outcome_of}
 use Rattle.cast_spec.specs.Chunk.{answer_next, entries_from}
 use Rattle.cast_spec.proofs.Steps.{no_map}
@@ -32,6 +27,8 @@ use Rattle.routes.proofs.Routes.{route_row, source_kind, target_kind}
 use Rattle.chunk_element.specs.declared.Settings.{Settings}
 use Rattle.chunk_element.specs.Settings.{MapReady, Ready, settings_for}
 use Rattle.chunk_element.specs.Place.{looked_up, refused_answer}
+use Rattle.answers.specs.Outcome.{Fit, Outcome}
+use Rattle.std.specs.Prelude.{None, Ok, Option}
 
 -- ---- two formats that are rows of the table
 pub format_pattern : (f : Format) (b : ℕ) → FormatRow f → b < 2 ^ bits (kind_in f) → FormatPattern b f
@@ -68,16 +65,16 @@ module _ (s : Settings) (ready : Ready s) where
     unfolding outcome_of
     outcome_is = ap (found_or (looked_up s keys targets b)) (sym (no_map (kind_in s.source) (kind_in s.target) s.rounding s.range (settings_for s keys targets).entries b (kind_in s.target) (value_of (kind_in s.source) b)))
 
-    pub steps_are : (found : Lookup) → found ≡ looked_up s keys targets b → (r : Fit) → r ≡ stepped found (source_of s.route) (target_of s.route) s.rounding s.range b → r ≡ fit_of (outcome_of (settings_for s keys targets) b)
+    pub steps_are : (found : Option ℕ) → found ≡ looked_up s keys targets b → (r : Fit) → r ≡ stepped found (source_of s.route) (target_of s.route) s.rounding s.range b → r ≡ fit_of (outcome_of (settings_for s keys targets) b)
     steps_are found f r e =
         e ∙ ap₂ (λ (j k : Kind). stepped found j k s.rounding s.range b) from_is to_is
-        ∙ ap (λ (l : Lookup). stepped l (kind_in s.source) (kind_in s.target) s.rounding s.range b) f
+        ∙ ap (λ (l : Option ℕ). stepped l (kind_in s.source) (kind_in s.target) s.rounding s.range b) f
         ∙ found_outcome (looked_up s keys targets b) (unmapped (kind_in s.source) (kind_in s.target) s.rounding s.range b)
         ∙ ap fit_of (sym outcome_is)
 
     -- with the fields of a refusal
-    pub refused_is : (i : ℕ) (r : Fit) → r ≡ fit_of (outcome_of (settings_for s keys targets) b) → refused_answer s b i r ≡ answer_next (outcome_of (settings_for s keys targets) b) i Converted
-    refused_is i r e = ap (λ (o : Outcome). answer_next o i Converted)
+    pub refused_is : (i : ℕ) (r : Fit) → r ≡ fit_of (outcome_of (settings_for s keys targets) b) → refused_answer s b i r ≡ answer_next (outcome_of (settings_for s keys targets) b) i (Ok tt)
+    refused_is i r e = ap (λ (o : Outcome). answer_next o i (Ok tt))
         (ap (filled (kind_in s.target) (as_f64 (kind_in s.source) b)) (e ∙ ap fit_of outcome_is)
         ∙ outcome_filled (looked_up s keys targets b) (kind_in s.source) (kind_in s.target) s.rounding s.range b ∙ sym outcome_is)
 
@@ -93,11 +90,11 @@ module _ (s : Settings) (keys targets : List ℕ) (map : MapReady s keys targets
     whole_targets = map.targets_whole;
   }
 
-  pub no_entries : s.entries ≡ 0 → Missing ≡ looked_up s keys targets b
+  pub no_entries : s.entries ≡ 0 → None ≡ looked_up s keys targets b
   no_entries e = ap (λ (n : ℕ). lookup_of (kind_in s.source) (value_of (kind_in s.source) b) (entries_from s.sw s.dw keys targets 0 n)) (sym e)
 
   -- by a kind that the source's is
-  pub looked_up_lem : (k : Kind) → k ≡ kind_in s.source → (r : Lookup) → r ≡ lookup_of k (value_of k b) (settings_for s keys targets).entries → r ≡ looked_up s keys targets b
+  pub looked_up_lem : (k : Kind) → k ≡ kind_in s.source → (r : Option ℕ) → r ≡ lookup_of k (value_of k b) (settings_for s keys targets).entries → r ≡ looked_up s keys targets b
   looked_up_lem k e r f = f ∙ ap (λ (j : Kind). lookup_of j (value_of j b) (settings_for s keys targets).entries) e
 
   pub integer_kind : (f : IntegerFormat) → s.source ≡ Integer f → integer f.signed (8 * s.sw) ≡ kind_in s.source

@@ -4,22 +4,20 @@ use Rattle.patterns.specs.Kind.{bits}
 use Rattle.patterns.specs.Pattern.{as_f64}
 use Rattle.patterns.specs.Value.{value_of}
 use Rattle.kinds.specs.Row.{kind_in}
-use Rattle.answers.specs.declared.Lookup.{Lookup}
-use Rattle.answers.specs.declared.Fit.{Fit}
-use Rattle.answers.specs.declared.Answer.{Answer}
-use Rattle.answers.specs.declared.Answer.TheVariants.{Converted}
 use Rattle.cast_spec.specs.Element.{lookup_of}
 use Rattle.cast_spec.specs.Chunk.{answer_next}
 use Rattle.cast_spec.specs.Fit.{filled}
 use Rattle.chunk_element.specs.declared.Settings.{Settings}
 use Rattle.chunk_element.specs.Settings.{MapReady, Ready, settings_for}
+use Rattle.answers.specs.Outcome.{Answer, Fit}
+use Rattle.std.specs.Prelude.{Ok, Option}
 
 -- an element's pattern, and settings for it
 pub record ElementReady (b : ℕ) (s : Settings) (keys targets : List ℕ) : Type 0 where
   pub map : MapReady s keys targets
   pub fits : b < 2 ^ bits (kind_in s.source)
 
-abbrev pub looked_up : Settings → List ℕ → List ℕ → ℕ → Lookup
+abbrev pub looked_up : Settings → List ℕ → List ℕ → ℕ → Option ℕ
 looked_up s keys targets b = lookup_of (kind_in s.source) (value_of (kind_in s.source) b) (settings_for s keys targets).entries
 
 -- an element of the source at the byte a
@@ -34,4 +32,4 @@ pub record FitReady (s : Settings) (keys targets src : List ℕ) (a : ℕ) : Typ
 
 -- the answer to the refusal of the pattern b at a position
 abbrev pub refused_answer : Settings → ℕ → ℕ → Fit → Answer
-refused_answer s b i r = answer_next (filled (kind_in s.target) (as_f64 (kind_in s.source) b) r) i Converted
+refused_answer s b i r = answer_next (filled (kind_in s.target) (as_f64 (kind_in s.source) b) r) i (Ok tt)

@@ -8,7 +8,7 @@ ghost use Rattle.cast_spec.specs.Fit.{fit_of};
 ghost use Rattle.chunk_element.specs.Settings.{settings_for};
 ghost use Rattle.chunk_element.specs.Place.{looked_up, ElementReady, FitReady, SourceReady, refused_answer};
 
-use answers::{Answer, Fit, Lookup};
+use answers::{Answer, Fit};
 use codes::OutOfRangeMode;
 use grid::RoundingMode;
 use kinds::Format;
@@ -29,12 +29,12 @@ pub struct Settings {
 }
 
 // The target of the first entry that matches an element.
-fn look_up(b: u64, keys: &[u8], targets: &[u8], s: Settings) -> Lookup
+fn look_up(b: u64, keys: &[u8], targets: &[u8], s: Settings) -> Option<u64>
     requires { ElementReady b s keys.now targets.now }
     ensures { result ≡ looked_up s keys.now targets.now b }
 {
     if s.entries == 0 {
-        return Lookup::Missing;
+        return None;
     }
     let source = s.source;
     match source {

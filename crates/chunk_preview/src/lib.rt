@@ -5,7 +5,7 @@ ghost use Rattle.chunk_element.specs.Settings.{settings_for};
 ghost use Rattle.chunk_run.specs.Run.{RunReady};
 ghost use Rattle.chunk_preview.specs.Foreseen.{Foreseen};
 
-use answers::{Answer, Fit, Preview};
+use answers::Preview;
 use chunk_element::Settings;
 
 // The first n elements, by position, up to the first refusal. An element is counted when the next turn begins, as in a run.
@@ -20,30 +20,26 @@ pub fn preview(
     requires { RunReady s keys.now targets.now src.now dst.now n }
     ensures { Foreseen (settings_for s keys.now targets.now) s.sw s.dw src.now dst.now n result }
 {
-    let mut i = 0;
-    let mut input = 0;
-    let mut output = 0;
     let mut changed = 0;
     let mut tally = tallies::no_tally();
     let mut last = tallies::NO_ELEMENT;
-    while i < n {
+    for i in 0..n {
+        let input = i * s.sw;
+        let output = i * s.dw;
         tallies::count_at(&mut tally, last);
-        let r = chunk_element::fit_at(src, keys, targets, s, input);
-        let Fit::Pattern { pattern, fared } = r else {
+        let fit = chunk_element::fit_at(src, keys, targets, s, input);
+        let Ok(stored) = fit else {
             return Preview {
-                reply: replies::reply(chunk_element::refused_at(src, s, input, i, r), tally),
-                changed: changed,
+                reply: replies::reply(chunk_element::refused_at(src, s, input, i, fit), tally),
+                changed,
             };
         };
-        changed += hamming::distance_le(dst, output, s.dw, pattern);
-        last = tallies::place(fared);
-        input += s.sw;
-        output += s.dw;
-        i += 1;
+        changed += hamming::distance_le(dst, output, s.dw, stored.pattern);
+        last = tallies::place(stored.fared);
     }
     tallies::count_at(&mut tally, last);
     Preview {
-        reply: replies::reply(Answer::Converted, tally),
-        changed: changed,
+        reply: replies::reply(Ok(()), tally),
+        changed,
     }
 }

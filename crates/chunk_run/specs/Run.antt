@@ -1,13 +1,13 @@
 -- Internal: a run of the first n positions.
 use Rattle.std.specs.Prelude.{◌≡◌, List, ℕ, ◌*◌, ◌≤◌, length}
 use Rattle.bytes_le.specs.Bytes.{pattern_at}
-use Rattle.answers.specs.declared.Outcome.{Outcome}
 use Rattle.answers.specs.declared.Reply.{Reply}
 use Rattle.cast_spec.specs.Element as E
 use Rattle.cast_spec.specs.Element.{outcome_of}
 use Rattle.cast_spec.specs.Chunk.{answer_from, bytes_from, converted_of, counts_below}
 use Rattle.chunk_element.specs.declared.Settings.{Settings}
 use Rattle.chunk_element.specs.Settings.{MapReady}
+use Rattle.answers.specs.Outcome.{Outcome}
 
 pub record RunReady (s : Settings) (keys targets src dst : List ℕ) (n : ℕ) : Type 0 where
   pub map : MapReady s keys targets

@@ -5,7 +5,7 @@ ghost use Rattle.std.specs.Prelude.{◌≡◌};
 ghost use Rattle.chunk_element.specs.Settings.{settings_for};
 ghost use Rattle.chunk_run.specs.Run.{RunReady, Ran};
 
-use answers::{Answer, Fit, Reply};
+use answers::Reply;
 use chunk_element::Settings;
 
 // The first n elements, by position, up to the first refusal. An element is counted when the next turn begins: at once, its place in the tally would be
@@ -16,23 +16,19 @@ pub fn run(src: &[u8], dst: &mut [u8], keys: &[u8], targets: &[u8], s: Settings,
 {
     let sw = s.sw;
     let dw = s.dw;
-    let mut i = 0;
-    let mut input = 0;
-    let mut output = 0;
     let mut tally = tallies::no_tally();
     let mut last = tallies::NO_ELEMENT;
-    while i < n {
+    for i in 0..n {
+        let input = i * sw;
+        let output = i * dw;
         tallies::count_at(&mut tally, last);
-        let r = chunk_element::fit_at(src, keys, targets, s, input);
-        let Fit::Pattern { pattern, fared } = r else {
-            return replies::reply(chunk_element::refused_at(src, s, input, i, r), tally);
+        let fit = chunk_element::fit_at(src, keys, targets, s, input);
+        let Ok(stored) = fit else {
+            return replies::reply(chunk_element::refused_at(src, s, input, i, fit), tally);
         };
-        store_le::write_le(dst, output, dw, pattern);
-        last = tallies::place(fared);
-        input += sw;
-        output += dw;
-        i += 1;
+        store_le::write_le(dst, output, dw, stored.pattern);
+        last = tallies::place(stored.fared);
     }
     tallies::count_at(&mut tally, last);
-    replies::reply(Answer::Converted, tally)
+    replies::reply(Ok(()), tally)
 }

@@ -1,7 +1,7 @@
 // An element of any kind: read from its pattern, and what it came to with the fields of a refusal.
 #![tactic(auto)]
 
-ghost use Rattle.std.specs.Prelude.{◌≡◌};
+ghost use Rattle.std.specs.Prelude.{◌≡◌, Err};
 ghost use Rattle.patterns.specs.Pattern.{as_f64};
 ghost use Rattle.kinds.specs.Row.{float_of, kind_in, FormatRow};
 ghost use Rattle.cast_spec.specs.Fit.{filled};
@@ -9,7 +9,7 @@ ghost use Rattle.float_fields.specs.Widened.{widened_of};
 ghost use Rattle.floats.specs.Form as form;
 ghost use Rattle.element.specs.Element.{FloatPattern, FormatPattern, element_of, element_f64, CanonicalElement};
 
-use answers::{Fit, Outcome};
+use answers::{ConversionError, ElementRefusal, Fit, Outcome};
 use float_fields::Widened;
 use floats::Float;
 use integers::Integer;
@@ -70,6 +70,28 @@ fn as_f64(x: Element) -> u64
     }
 }
 
+// The refusal of an element whose f64 is `value`, with its fields.
+fn refusal(error: ConversionError, value: u64, target: Format) -> ElementRefusal
+    requires { FormatRow target }
+    ensures { Err result ≡ filled (kind_in target) value (Err error) }
+{
+    match error {
+        ConversionError::NotFinite => ElementRefusal::NanOrInf { value },
+        ConversionError::OutOfRange => match target {
+            Format::Integer(t) => ElementRefusal::OutOfRange {
+                value,
+                lo: t.lowest,
+                hi: t.highest,
+            },
+            Format::Float(t) => ElementRefusal::FloatOutOfRange {
+                value,
+                lo: t.lowest,
+                hi: t.highest,
+            },
+        },
+    }
+}
+
 // What an element of the pattern b comes to, with the fields of a refusal, where its steps leave this fit.
 pub fn outcome(b: u64, fit: Fit, source: Format, target: Format) -> Outcome
     requires { FormatPattern b source × FormatRow target }
@@ -77,22 +99,7 @@ pub fn outcome(b: u64, fit: Fit, source: Format, target: Format) -> Outcome
 {
     let value = as_f64(read(b, source));
     match fit {
-        Fit::Pattern { pattern, fared } => Outcome::Stored {
-            pattern: pattern,
-            fared: fared,
-        },
-        Fit::NotFinite => Outcome::NanOrInf { value: value },
-        Fit::OutOfRange => match target {
-            Format::Integer(t) => Outcome::OutOfRange {
-                value: value,
-                lo: t.lowest,
-                hi: t.highest,
-            },
-            Format::Float(t) => Outcome::FloatOutOfRange {
-                value: value,
-                lo: t.lowest,
-                hi: t.highest,
-            },
-        },
+        Ok(stored) => Ok(stored),
+        Err(error) => Err(refusal(error, value, target)),
     }
 }

@@ -15,8 +15,6 @@ use Rattle.grid.specs.declared.RoundingMode.{RoundingMode}
 use Rattle.grid.proofs.Kept.{pick_signed}
 use Rattle.patterns.specs.Kind.{integer}
 use Rattle.codes.specs.declared.OutOfRangeMode.{OutOfRangeMode}
-use Rattle.answers.specs.declared.Fit.{Fit}
-use Rattle.answers.specs.declared.Fit.TheVariants.{NotFinite}
 use Rattle.cast_spec.specs.Element.{ranged}
 use Rattle.scaled.specs.declared.Scaled.{Scaled}
 use Rattle.floats.specs.declared.Class.{Class}
@@ -30,13 +28,16 @@ use Rattle.rounding.proofs.Units.{whole_times_unit}
 use Rattle.cast_spec.specs.Fit.{fit_of}
 use Rattle.narrowing.specs.Fit.{fit_class, fit_float}
 use Rattle.integer_range.specs.Range.{RangeApplied}
+use Rattle.answers.specs.Outcome.{Fit}
+use Rattle.answers.specs.declared.ConversionError.TheVariants.{NotFinite}
+use Rattle.std.specs.Prelude.{Err}
 
 module _ (s : Bool) (n : ℕ) (mode : RoundingMode) (range : OutOfRangeMode) (x : Float) where
   -- a class that is not `Finite`, as a program tells it: by the number of its variant
-  pub not_finite : OneOf (1 ∷ 2 ∷ []) (tag_of the_type x.class) → NotFinite ≡ fit_float (integer s n) mode range x
+  pub not_finite : OneOf (1 ∷ 2 ∷ []) (tag_of the_type x.class) → Err NotFinite ≡ fit_float (integer s n) mode range x
   not_finite = go x.class
     where
-      go : (c : Class) → OneOf (1 ∷ 2 ∷ []) (tag_of the_type c) → NotFinite ≡ fit_class (integer s n) mode range x c
+      go : (c : Class) → OneOf (1 ∷ 2 ∷ []) (tag_of the_type c) → Err NotFinite ≡ fit_class (integer s n) mode range x c
       go (Finite m) t = absurd (⊎_elim (λ (e : ◌≡◌ {A = ℕ} 0 1). omega arith) (λ (e : ◌≡◌ {A = ℕ} 0 2). omega arith) t)
       go Infinite t = refl
       go (NotANumber t) u = refl

@@ -15,7 +15,6 @@ use Rattle.patterns.specs.Kind.{f64}
 use Rattle.patterns.specs.Pattern.{mag_bits, nan_pattern, with_sign}
 use Rattle.counts.specs.declared.Fared.TheVariants.{Exact}
 use Rattle.codes.specs.declared.OutOfRangeMode.{OutOfRangeMode}
-use Rattle.answers.specs.declared.Fit.TheVariants.{Pattern}
 use Rattle.cast_spec.specs.Fit.{fit_number}
 use Rattle.scaled.specs.Scaled.{Canonical, finite_bits}
 use Rattle.scaled.specs.declared.Scaled.{Scaled}
@@ -26,6 +25,7 @@ use Rattle.floats.specs.declared.Class.TheVariants.{Finite, Infinite, NotANumber
 use Rattle.floats.specs.declared.Float.{Float}
 use Rattle.narrowing.specs.Fit.{Special, fit_class, fit_float}
 use Rattle.float_range.proofs.Fits.{bits_fit, number_fit}
+use Rattle.answers.specs.Outcome.{fit_as}
 
 finite_on : (x : Scaled) → Canonical x → OnMag (float 53 0) (x.significand * 2 ^ x.exponent)
 finite_on x c = record { m = x.significand; e = x.exponent; written = (c.small, omega arith, refl) }
@@ -39,16 +39,16 @@ bits_of x c r =
     ∙ scaled_bits (x.significand * 2 ^ x.exponent) (finite_on x c)
     ∙ ap (mag_bits 53 0) (sym (own_pick x c r))
 
-pub finite_to_f64 : (neg : Bool) (x : Scaled) → Canonical x → (mode : RoundingMode) (range : OutOfRangeMode) → Pattern (with_sign 64 neg (finite_bits x)) Exact ≡ fit_number f64 mode range neg (signed neg (x.significand * 2 ^ x.exponent))
+pub finite_to_f64 : (neg : Bool) (x : Scaled) → Canonical x → (mode : RoundingMode) (range : OutOfRangeMode) → fit_as (with_sign 64 neg (finite_bits x)) Exact ≡ fit_number f64 mode range neg (signed neg (x.significand * 2 ^ x.exponent))
 finite_to_f64 neg x h mode range =
     bits_fit 53 11 neg range (finite_bits x) side.Exact (omega (arith, h.small, h.finite))
     ∙ number_fit 53 11 0 (lit≤ tt) (lit< tt) mode range neg (x.significand * 2 ^ x.exponent) (finite_bits x) (bits_of x h (rule_for neg mode)) side.Exact (sym (exact_is _ _ (ap (signed neg) (own_pick x h (rule_for neg mode)))))
 
-pub special_to_f64 : (f : Float) → Special f.class → (mode : RoundingMode) (range : OutOfRangeMode) → Pattern (f64_of f) Exact ≡ fit_float f64 mode range f
+pub special_to_f64 : (f : Float) → Special f.class → (mode : RoundingMode) (range : OutOfRangeMode) → fit_as (f64_of f) Exact ≡ fit_float f64 mode range f
 unfolding nan_pattern
 special_to_f64 f ok mode range = go f.class refl ok
   where
-    go : (c : Class) → f.class ≡ c → Special c → Pattern (f64_of (record { negative = f.negative; class = c })) Exact ≡ fit_class f64 mode range f c
+    go : (c : Class) → f.class ≡ c → Special c → fit_as (f64_of (record { negative = f.negative; class = c })) Exact ≡ fit_class f64 mode range f c
     go (Finite x) e h = absurd h
     go Infinite e h = refl
-    go (NotANumber t) e h = ap (λ (c : Class). Pattern (f64_of (record { negative = f.negative; class = c })) Exact) (sym e)
+    go (NotANumber t) e h = ap (λ (c : Class). fit_as (f64_of (record { negative = f.negative; class = c })) Exact) (sym e)

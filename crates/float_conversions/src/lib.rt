@@ -9,7 +9,7 @@ ghost use Rattle.scaled.specs.Scaled.{Canonical};
 ghost use Rattle.floats.specs.Form.{CanonicalClass};
 ghost use Rattle.narrowing.specs.Fit.{fit_float};
 
-use answers::Fit;
+use answers::{ConversionError, Fit};
 use codes::OutOfRangeMode;
 use floats::{Class, Float};
 use grid::RoundingMode;
@@ -29,7 +29,7 @@ pub fn convert_float_to_int(
     let negative = x.negative;
     let class = x.class;
     let Class::Finite(magnitude) = class else {
-        return Fit::NotFinite;
+        return Err(ConversionError::NotFinite);
     };
     let whole = whole_numbers::round_to_whole(magnitude, mode, negative);
     let ternary = whole.ternary;

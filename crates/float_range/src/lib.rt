@@ -6,7 +6,7 @@ ghost use Rattle.patterns.specs.Float.{inf_bits};
 ghost use Rattle.patterns.specs.Pattern as pattern;
 ghost use Rattle.float_range.specs.Range.{FormatBits, overrun_fit, fit_bits};
 
-use answers::Fit;
+use answers::{ConversionError, Fit, Stored};
 use codes::OutOfRangeMode;
 use counts::Fared;
 use grid::Ternary;
@@ -33,12 +33,12 @@ pub fn overrun(negative: bool, p: u32, w: u32, range: OutOfRangeMode) -> Fit
     ensures { result ≡ overrun_fit p w negative range }
 {
     if let OutOfRangeMode::Clamp = range {
-        return Fit::Pattern {
+        return Ok(Stored {
             pattern: infinity(negative, p, w),
             fared: Fared::Clamped,
-        };
+        });
     }
-    Fit::OutOfRange
+    Err(ConversionError::OutOfRange)
 }
 
 // The bits below a sign as a pattern of the format of p significant bits and w bits of exponent field, or what an overrun comes to where they reach an
@@ -55,10 +55,10 @@ pub fn fit_bits(
     ensures { result ≡ fit_bits p w negative range bits ternary }
 {
     if bits < infinity_bits(p, w) {
-        return Fit::Pattern {
+        return Ok(Stored {
             pattern: float_fields::sign_bit(negative, w + p - 1) + bits,
             fared: counts::by_pick(ternary),
-        };
+        });
     }
     overrun(negative, p, w, range)
 }

@@ -21,7 +21,6 @@ use Rattle.patterns.proofs.Floats.{mag_lt}
 use Rattle.counts.specs.Counts.{by_pick}
 use Rattle.counts.specs.declared.Fared.{Fared}
 use Rattle.codes.specs.declared.OutOfRangeMode.{OutOfRangeMode}
-use Rattle.answers.specs.declared.Fit.TheVariants.{Pattern}
 use Rattle.scaled.specs.Scaled.{scaled_of}
 use Rattle.floats.specs.Form.{CanonicalClass}
 use Rattle.floats.specs.declared.Class.TheVariants.{Finite}
@@ -37,6 +36,7 @@ use Rattle.rebiasing.specs.Rebiased.{Rebiasable, rebiased}
 use Rattle.float_range.proofs.Fits.{bits_fit, number_fit}
 use Rattle.rebiasing.proofs.Exact.{rebias_exact, rebiasable}
 use Rattle.integer_conversions.specs.Fit.{fit_integer}
+use Rattle.answers.specs.Outcome.{fit_as}
 
 module _ (x : Integer) (small : x.magnitude < 2 ^ 64) (mode : RoundingMode) (range : OutOfRangeMode) (rounded : Rounded) where
   abbrev r : RoundingMode
@@ -62,10 +62,10 @@ module _ (x : Integer) (small : x.magnitude < 2 ^ 64) (mode : RoundingMode) (ran
       ∙ sym (side_scale x.negative x.magnitude (pick_mag (float p 0) r x.magnitude) (2 ^ 1074) (pow_pos 1074))
       ∙ ap (λ (z : ℕ). ternary_of (signed x.negative (x.magnitude * 2 ^ 1074)) (signed x.negative z)) (sym (picked_is p s h))
 
-  pub integer_to_f64 : rounded ≡ rounded_bits 53 x.negative mode x.magnitude → (f : Fared) → f ≡ by_pick rounded.ternary → Pattern (with_sign 64 x.negative bits) f ≡ fit_integer f64 mode range x
+  pub integer_to_f64 : rounded ≡ rounded_bits 53 x.negative mode x.magnitude → (f : Fared) → f ≡ by_pick rounded.ternary → fit_as (with_sign 64 x.negative bits) f ≡ fit_integer f64 mode range x
   integer_to_f64 e f g =
       let ok : Precision 53 = record { two = lit≤ tt; at_most_53 = lit≤ tt } in
-      ap (Pattern (with_sign 64 x.negative bits)) g
+      ap (fit_as (with_sign 64 x.negative bits)) g
       ∙ bits_fit 53 11 x.negative range bits rounded.ternary (subst (λ (z : ℕ). z < inf_bits 53 11) (sym (bits_are 53 e)) (mag_lt 53 11 0 (lit≤ tt) (lit< tt) (picked 53) (pick_on 53 ok r x.magnitude small) (pick_in_f64 53 ok r x.magnitude small)))
       ∙ number_fit 53 11 0 (lit≤ tt) (lit< tt) mode range x.negative (x.magnitude * 2 ^ 1074) bits (bits_are 53 e ∙ ap (mag_bits 53 0) (sym (picked_is 53 0 (omega arith)))) rounded.ternary (side_is 53 0 (omega arith) e)
 

@@ -14,12 +14,12 @@ use Rattle.grid.proofs.Sides.{exact_is}
 use Rattle.patterns.specs.Kind.{integer}
 use Rattle.patterns.proofs.Floats.{abs_signed}
 use Rattle.codes.specs.declared.OutOfRangeMode.{OutOfRangeMode}
-use Rattle.answers.specs.declared.Fit.{Fit}
 use Rattle.cast_spec.specs.Element.{ranged}
 use Rattle.cast_spec.specs.Fit.{fit_of}
 use Rattle.integers.specs.declared.Integer.{Integer}
 use Rattle.integer_range.specs.Range.{RangeApplied}
 use Rattle.integer_conversions.specs.Fit.{fit_integer}
+use Rattle.answers.specs.Outcome.{Fit}
 
 abbrev number_of : Integer → ℤ
 number_of x = signed x.negative (x.magnitude * 2 ^ 1074)

@@ -6,7 +6,7 @@ ghost use Rattle.grid.specs.declared.RoundingMode.{RoundingMode};
 ghost use Rattle.kinds.specs.Row.{integer_of, float_of, IntegerRow, FloatRow};
 ghost use Rattle.integer_conversions.specs.Fit.{fit_integer};
 
-use answers::Fit;
+use answers::{Fit, Stored};
 use codes::OutOfRangeMode;
 use grid::{RoundingMode, Ternary};
 use integers::Integer;
@@ -35,10 +35,10 @@ pub fn convert_int_to_float(
     let rounded = integer_to_f64::int_to_f64_magnitude(x.magnitude, negative, precision, mode);
     let ternary = rounded.ternary;
     match precision {
-        53 => Fit::Pattern {
+        53 => Ok(Stored {
             pattern: float_fields::sign_bit(negative, 63) + rounded.bits,
             fared: counts::by_pick(ternary),
-        },
+        }),
         _ => rebiasing::fit_rebiased(
             rounded.bits,
             ternary,

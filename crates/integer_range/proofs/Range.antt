@@ -26,13 +26,13 @@ use Rattle.counts.specs.declared.Fared.TheVariants.{Clamped, Wrapped}
 use Rattle.kinds.specs.declared.IntegerFormat.{IntegerFormat}
 use Rattle.codes.specs.declared.OutOfRangeMode.{OutOfRangeMode}
 use Rattle.codes.specs.declared.OutOfRangeMode.TheVariants.{Clamp, None, Wrap}
-use Rattle.answers.specs.declared.Outcome.TheVariants.{Stored}
-use Rattle.answers.specs.declared.Fit.{Fit}
-use Rattle.answers.specs.declared.Fit.TheVariants.{Pattern, OutOfRange}
 use Rattle.cast_spec.specs.Element.{in_range, nearer_end, beyond, ranged}
 use Rattle.wrapping.proofs.Residues.{low_bits_mod}
 use Rattle.cast_spec.specs.Fit.{fit_of}
 use Rattle.integer_range.specs.Range.{refusing, clamping, end_mag, RangeApplied}
+use Rattle.answers.specs.Outcome.{Fit, fit_as, stored_as}
+use Rattle.answers.specs.declared.ConversionError.TheVariants.{OutOfRange}
+use Rattle.std.specs.Prelude.{Err}
 
 -- ---- in range exactly where the magnitude is at most the end's on that side
 module _ (s : Bool) (n u : ℕ) (unit : 0 < u) where
@@ -111,7 +111,7 @@ module _ (s : Bool) (n : ℕ) (neg : Bool) (x : ℤ) (N : ℕ) where
 
   -- the pattern of a magnitude of that sign, and how the element fared
   abbrev stored : ℕ → Fared → Fit
-  stored z f = Pattern (low_bits n (signed neg z)) f
+  stored z f = fit_as (low_bits n (signed neg z)) f
 
   abbrev fared : Fared
   fared = by_pick (ternary_of x y)
@@ -120,22 +120,22 @@ module _ (s : Bool) (n : ℕ) (neg : Bool) (x : ℤ) (N : ℕ) where
   fit range = fit_of (ranged k range 0 neg x y)
 
   fits_in : (range : OutOfRangeMode) → N ≤ end_mag k neg → stored N fared ≡ fit range
-  fits_in range h = sym (ap (λ (c : Bool). fit_of (cond c (Stored (pattern_of k neg y) fared) (beyond k range 0 neg y))) (test_is ∙ le-leb N (end_mag k neg) h) ∙ ap (λ (z : ℕ). Pattern z fared) (whole_pattern s n neg neg N))
+  fits_in range h = sym (ap (λ (c : Bool). fit_of (cond c (stored_as (pattern_of k neg y) fared) (beyond k range 0 neg y))) (test_is ∙ le-leb N (end_mag k neg) h) ∙ ap (λ (z : ℕ). fit_as z fared) (whole_pattern s n neg neg N))
 
   past : (range : OutOfRangeMode) → end_mag k neg < N → fit_of (beyond k range 0 neg y) ≡ fit range
-  past range h = sym (ap (λ (c : Bool). fit_of (cond c (Stored (pattern_of k neg y) fared) (beyond k range 0 neg y))) (test_is ∙ lt-leb N (end_mag k neg) h))
+  past range h = sym (ap (λ (c : Bool). fit_of (cond c (stored_as (pattern_of k neg y) fared) (beyond k range 0 neg y))) (test_is ∙ lt-leb N (end_mag k neg) h))
 
-  past_none : end_mag k neg < N → OutOfRange ≡ fit None
+  past_none : end_mag k neg < N → Err OutOfRange ≡ fit None
   unfolding beyond
   past_none h = past None h
 
   past_clamp : end_mag k neg < N → stored (end_mag k neg) Clamped ≡ fit Clamp
   unfolding beyond
-  past_clamp h = sym (ap (λ (z : ℤ). Pattern (pattern_of k neg z) Clamped) (nearer h) ∙ ap (λ (z : ℕ). Pattern z Clamped) (whole_pattern s n neg neg (end_mag k neg))) ∙ past Clamp h
+  past_clamp h = sym (ap (λ (z : ℤ). fit_as (pattern_of k neg z) Clamped) (nearer h) ∙ ap (λ (z : ℕ). fit_as z Clamped) (whole_pattern s n neg neg (end_mag k neg))) ∙ past Clamp h
 
   past_wrap : end_mag k neg < N → stored N Wrapped ≡ fit Wrap
   unfolding beyond
-  past_wrap h = sym (ap (λ (z : ℕ). Pattern z Wrapped) (whole_pattern s n neg neg N)) ∙ past Wrap h
+  past_wrap h = sym (ap (λ (z : ℕ). fit_as z Wrapped) (whole_pattern s n neg neg N)) ∙ past Wrap h
 
   -- each range choice, where p tells whether the magnitude is past the end
   clamp_fits : (p : Bool) → p ≡ ltb (end_mag k neg) N → stored (cond p (end_mag k neg) N) (cond p Clamped fared) ≡ fit Clamp
@@ -200,7 +200,7 @@ module _ (s : Bool) (n : ℕ) (positive : 0 < n) (at_most : n ≤ 64) (neg : Boo
   abbrev pub out : Bool
   out = exceeds || ltb end m
 
-  pub refused_past : (range : OutOfRangeMode) → out && refusing range ≡ true → RangeApplied neg m exceeds t (integer s n) range OutOfRange
+  pub refused_past : (range : OutOfRangeMode) → out && refusing range ≡ true → RangeApplied neg m exceeds t (integer s n) range (Err OutOfRange)
   refused_past None h = record { fit = λ N x a b e. past_none s n neg x N (ltb-true _ _ (sym (past_told N a b) ∙ and_left out true h)) }
   refused_past Clamp h = absurd (true≢false (sym (and_right out false h)))
   refused_past Wrap h = absurd (true≢false (sym (and_right out false h)))
@@ -212,20 +212,20 @@ module _ (s : Bool) (n : ℕ) (positive : 0 < n) (at_most : n ≤ 64) (neg : Boo
   abbrev pub told : OutOfRangeMode → Fared
   told range = cond out (cond (clamping range) Clamped Wrapped) (by_pick t)
 
-  pub stored_kept : (range : OutOfRangeMode) → out && refusing range ≡ false → (r : ℕ) (f : Fared) → r ≡ low_bits n (signed neg (kept range)) → f ≡ told range → RangeApplied neg m exceeds t (integer s n) range (Pattern r f)
+  pub stored_kept : (range : OutOfRangeMode) → out && refusing range ≡ false → (r : ℕ) (f : Fared) → r ≡ low_bits n (signed neg (kept range)) → f ≡ told range → RangeApplied neg m exceeds t (integer s n) range (fit_as r f)
   stored_kept None h r f is g =
       let q = and-false out h in record {
-        fit = λ N x a b e. ap₂ Pattern (is ∙ ap (λ (z : ℕ). low_bits n (signed neg z)) (ap (λ (p : Bool). cond (p && false) end m) q ∙ in_hand N a b q)) (g ∙ ap₂ (λ (p : Bool) (u : Ternary). cond p Wrapped (by_pick u)) q e) ∙ fits_in s n neg x N None (ltb-false _ _ (sym (past_told N a b) ∙ q));
+        fit = λ N x a b e. ap₂ fit_as (is ∙ ap (λ (z : ℕ). low_bits n (signed neg z)) (ap (λ (p : Bool). cond (p && false) end m) q ∙ in_hand N a b q)) (g ∙ ap₂ (λ (p : Bool) (u : Ternary). cond p Wrapped (by_pick u)) q e) ∙ fits_in s n neg x N None (ltb-false _ _ (sym (past_told N a b) ∙ q));
       }
   stored_kept Clamp h r f is g = record {
-    fit = λ N x a b e. ap₂ Pattern (is ∙ ap (λ (z : ℕ). low_bits n (signed neg z)) (ends_at N out (in_hand N a b))) (g ∙ ap (λ (u : Ternary). cond out Clamped (by_pick u)) e) ∙ clamp_fits s n neg x N out (past_told N a b);
+    fit = λ N x a b e. ap₂ fit_as (is ∙ ap (λ (z : ℕ). low_bits n (signed neg z)) (ends_at N out (in_hand N a b))) (g ∙ ap (λ (u : Ternary). cond out Clamped (by_pick u)) e) ∙ clamp_fits s n neg x N out (past_told N a b);
   }
     where
       ends_at : (N : ℕ) (p : Bool) → (p ≡ false → m ≡ N) → cond (p && true) end m ≡ cond p (end_mag (integer s n) neg) N
       ends_at N true f = ends
       ends_at N false f = f refl
   stored_kept Wrap h r f is g = record {
-    fit = λ N x a b e. ap₂ Pattern (is ∙ ap (λ (z : ℕ). low_bits n (signed neg z)) (own out ∙ a) ∙ low_bits_mod n neg N at_most) (g ∙ ap (λ (u : Ternary). cond out Wrapped (by_pick u)) e) ∙ wrap_fits s n neg x N out (past_told N a b);
+    fit = λ N x a b e. ap₂ fit_as (is ∙ ap (λ (z : ℕ). low_bits n (signed neg z)) (own out ∙ a) ∙ low_bits_mod n neg N at_most) (g ∙ ap (λ (u : Ternary). cond out Wrapped (by_pick u)) e) ∙ wrap_fits s n neg x N out (past_told N a b);
   }
     where
       own : (p : Bool) → cond (p && false) end m ≡ m

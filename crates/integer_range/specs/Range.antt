@@ -6,9 +6,9 @@ use Rattle.grid.specs.declared.Ternary.{Ternary}
 use Rattle.patterns.specs.Kind.{Kind, integer, binary, high_int}
 use Rattle.codes.specs.declared.OutOfRangeMode.{OutOfRangeMode}
 use Rattle.codes.specs.declared.OutOfRangeMode.TheVariants.{None, Clamp, Wrap}
-use Rattle.answers.specs.declared.Fit.{Fit}
 use Rattle.cast_spec.specs.Element.{ranged}
 use Rattle.cast_spec.specs.Fit.{fit_of}
+use Rattle.answers.specs.Outcome.{Fit}
 
 -- what a range choice does with a pick past the range: it refuses it, clamps it, or else wraps it
 abbrev pub refusing : OutOfRangeMode → Bool

@@ -6,7 +6,7 @@ ghost use Rattle.counts.specs.Counts.{by_pick};
 ghost use Rattle.kinds.specs.Row.{integer_of, IntegerRow};
 ghost use Rattle.integer_range.specs.Range.{refusing, clamping, end_mag, RangeApplied};
 
-use answers::Fit;
+use answers::{ConversionError, Fit, Stored};
 use codes::OutOfRangeMode;
 use counts::Fared;
 use grid::Ternary;
@@ -73,12 +73,12 @@ pub fn apply_range(
     let end = end_magnitude(to, negative);
     let past = exceeds | (end < magnitude);
     if past & refuses(range) {
-        return Fit::OutOfRange;
+        return Err(ConversionError::OutOfRange);
     }
     let clamp = clamps(range);
     let kept = select::choose(past & clamp, end, magnitude);
-    Fit::Pattern {
+    Ok(Stored {
         pattern: wrapping::wrap_magnitude(negative, kept, to.bits),
         fared: fared(past, clamp, ternary),
-    }
+    })
 }

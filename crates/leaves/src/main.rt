@@ -8,7 +8,7 @@ ghost use Rattle.kinds.specs.Row.{FloatRow};
 ghost use Rattle.integers.specs.Magnitude.{IntegerPattern};
 ghost use Rattle.integer_rounding.specs.Precision.{Precision};
 
-use answers::{Fit, Lookup};
+use answers::{ConversionError, Fit, Stored};
 use codes::OutOfRangeMode;
 use counts::Fared;
 use floats::{Class, Float};
@@ -366,12 +366,12 @@ fn put_fared(rt: &impl Print, f: Fared) -> io::Result<()> {
 
 fn put_fit(rt: &impl Print, f: Fit) -> io::Result<()> {
     match f {
-        Fit::Pattern { pattern, fared } => {
+        Ok(Stored { pattern, fared }) => {
             number(rt, pattern, 8)?;
             put_fared(rt, fared)?;
         }
-        Fit::NotFinite => text(rt, b" not-finite")?,
-        Fit::OutOfRange => text(rt, b" out-of-range")?,
+        Err(ConversionError::NotFinite) => text(rt, b" not-finite")?,
+        Err(ConversionError::OutOfRange) => text(rt, b" out-of-range")?,
     }
     Ok(())
 }
@@ -561,10 +561,10 @@ fn residues(rt: &impl Print) -> io::Result<()> {
 
 // ---- map
 
-fn looked_up(rt: &impl Print, l: Lookup) -> io::Result<()> {
+fn looked_up(rt: &impl Print, l: Option<u64>) -> io::Result<()> {
     match l {
-        Lookup::Found(target) => number(rt, target, 2)?,
-        Lookup::Missing => text(rt, b" none")?,
+        Some(target) => number(rt, target, 2)?,
+        None => text(rt, b" none")?,
     }
     end(rt)
 }

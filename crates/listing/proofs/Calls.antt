@@ -10,7 +10,6 @@ use Rattle.patterns.specs.Kind.{width}
 use Rattle.answers.specs.Answer.{position_of}
 use Rattle.kinds.specs.Table.{kind_of}
 use Rattle.kinds.specs.Row.{row_of}
-use Rattle.answers.specs.declared.Answer.{Answer}
 use Rattle.answers.specs.declared.Reply.{Reply}
 use Rattle.kinds.specs.declared.KindRow.{KindRow}
 use Rattle.kinds.proofs.Listed.{row_width}
@@ -24,6 +23,7 @@ use Rattle.listing.specs.Listing.{report_of}
 use Rattle.listing_input.proofs.Parts.{row_listed, row_most}
 use Rattle.listing.specs.Room.{CallFits}
 use Rattle.listing.proofs.Unchanged.{position_counted, same_report}
+use Rattle.answers.specs.Outcome.{Answer}
 
 -- ---- n elements of w bytes, each of at most 8, of at most 8,186 bytes of source
 pub destination_most : (n w : ℕ) → n ≤ 8186 → w ≤ 8 → n * w ≤ 65488

@@ -9,13 +9,13 @@ use lib.ListN.{length, drop}
 use Rattle.bytes_le.specs.Bytes.{to_le, pattern_at}
 use Rattle.bytes_le.proofs.Places.{first_place, next_place}
 use Rattle.answers.specs.Answer.{number_of, position_of}
-use Rattle.answers.specs.declared.Answer.{Answer}
-use Rattle.answers.specs.declared.Outcome.{Outcome}
-use Rattle.answers.specs.declared.Outcome.TheVariants.{Stored, NanOrInf, OutOfRange, FloatOutOfRange}
 use Rattle.cast_spec.specs.Chunk.{Inputs, inputs, sw, dw, Check, checks_of, all_pass, tested, call_of, settings_of, outcome_at, answer_next, answer_from, answer_of, bytes_next, bytes_from, destination_of}
 use Rattle.cast_spec.proofs.Checks.{EachRefusal, tested_by}
 use Rattle.report.specs.Report.{converted, first_line, line, lines, report}
 use Rattle.listing.specs.Listing.{report_of}
+use Rattle.answers.specs.Outcome.{Answer, Outcome}
+use Rattle.answers.specs.declared.ElementRefusal.TheVariants.{FloatOutOfRange, NanOrInf, OutOfRange}
+use Rattle.std.specs.Prelude.{Err, Ok}
 
 -- how many elements an answer converts of n
 abbrev shown : Answer → ℕ → ℕ
@@ -38,20 +38,20 @@ module _ (o : ℕ → Outcome) (w : ℕ) where
       same a n = omega arith
 
       go : (x : Outcome) → suc a ≤ shown (answer_from o (suc a) n) (suc a + n) → a ≤ shown (answer_next x a (answer_from o (suc a) n)) (a + suc n)
-      go (Stored b _) h = let g = subst (λ (z : ℕ). suc a ≤ shown (answer_from o (suc a) n) z) (same a n) h in omega arith
-      go (NanOrInf v) h = omega arith
-      go (OutOfRange v lo hi) h = omega arith
-      go (FloatOutOfRange v lo hi) h = omega arith
+      go (Ok s) h = let g = subst (λ (z : ℕ). suc a ≤ shown (answer_from o (suc a) n) z) (same a n) h in omega arith
+      go (Err (NanOrInf v)) h = omega arith
+      go (Err (OutOfRange v lo hi)) h = omega arith
+      go (Err (FloatOutOfRange v lo hi)) h = omega arith
 
   position_before : (a n : ℕ) → position_of (answer_from o a n) ≤ a + n
   position_before a zero = omega arith
   position_before a (suc n) = go (o a) (position_before (suc a) n)
     where
       go : (x : Outcome) → position_of (answer_from o (suc a) n) ≤ suc a + n → position_of (answer_next x a (answer_from o (suc a) n)) ≤ a + suc n
-      go (Stored b _) h = omega arith
-      go (NanOrInf v) h = omega arith
-      go (OutOfRange v lo hi) h = omega arith
-      go (FloatOutOfRange v lo hi) h = omega arith
+      go (Ok s) h = omega arith
+      go (Err (NanOrInf v)) h = omega arith
+      go (Err (OutOfRange v lo hi)) h = omega arith
+      go (Err (FloatOutOfRange v lo hi)) h = omega arith
 
   -- the converted elements' lines do not depend on what stood there
   same_lines : (a n : ℕ) (d d' : List ℕ) → lines w (bytes_from o w a n d) 0 (shown (answer_from o a n) (a + n) - a) ≡ lines w (bytes_from o w a n d') 0 (shown (answer_from o a n) (a + n) - a)
@@ -89,15 +89,15 @@ module _ (o : ℕ → Outcome) (w : ℕ) where
 
       go : (x : Outcome) → suc a ≤ shown R (suc a + n) → lines w (W d) 0 (shown R (suc a + n) - suc a) ≡ lines w (W d') 0 (shown R (suc a + n) - suc a)
           → lines w (bytes_next x w d (W d)) 0 (shown (answer_next x a R) (a + suc n) - a) ≡ lines w (bytes_next x w d' (W d')) 0 (shown (answer_next x a R) (a + suc n) - a)
-      go (Stored b _) h e =
-          ap (lines w (to_le w b ++ W d) 0) (count h)
-          ∙ one b d (shown R (suc a + n) - suc a)
-          ∙ ap (λ (z : List ℕ). line w (pattern_at w (to_le w b ++ []) 0) ++ z) e
-          ∙ sym (one b d' (shown R (suc a + n) - suc a))
-          ∙ sym (ap (lines w (to_le w b ++ W d') 0) (count h))
-      go (NanOrInf v) h e = refuses d ∙ sym (refuses d')
-      go (OutOfRange v lo hi) h e = refuses d ∙ sym (refuses d')
-      go (FloatOutOfRange v lo hi) h e = refuses d ∙ sym (refuses d')
+      go (Ok s) h e =
+          ap (lines w (to_le w s.pattern ++ W d) 0) (count h)
+          ∙ one s.pattern d (shown R (suc a + n) - suc a)
+          ∙ ap (λ (z : List ℕ). line w (pattern_at w (to_le w s.pattern ++ []) 0) ++ z) e
+          ∙ sym (one s.pattern d' (shown R (suc a + n) - suc a))
+          ∙ sym (ap (lines w (to_le w s.pattern ++ W d') 0) (count h))
+      go (Err (NanOrInf v)) h e = refuses d ∙ sym (refuses d')
+      go (Err (OutOfRange v lo hi)) h e = refuses d ∙ sym (refuses d')
+      go (Err (FloatOutOfRange v lo hi)) h e = refuses d ∙ sym (refuses d')
 
   -- from the first on
   same_from_first : (n : ℕ) (d d' : List ℕ) → lines w (bytes_from o w 0 n d) 0 (shown (answer_from o 0 n) n) ≡ lines w (bytes_from o w 0 n d') 0 (shown (answer_from o 0 n) n)

@@ -9,7 +9,6 @@ ghost use Rattle.cast_spec.specs.Element.{matches, lookup_of};
 ghost use Rattle.cast_spec.specs.Chunk.{entries_from};
 ghost use Rattle.mapping.specs.Map.{FloatPatterns, MapBytes};
 
-use answers::Lookup;
 use kinds::FloatFormat;
 
 // Whether a float matches a key: equal patterns, two NaNs, or two zeros. The format has p significant bits and w bits of exponent field.
@@ -39,7 +38,7 @@ pub fn apply_scalar_map_float(
     format: FloatFormat,
     sw: usize,
     dw: usize,
-) -> Lookup
+) -> Option<u64>
     requires { FloatRow format × MapBytes (bits (float_of format)) b keys.now targets.now n sw dw }
     ensures { result ≡ lookup_of (float_of format) (value_of (float_of format) b) (entries_from sw dw keys.now targets.now 0 n) }
 {
@@ -47,11 +46,11 @@ pub fn apply_scalar_map_float(
     while j < n {
         let key = bytes_le::fetch(keys, j, sw);
         if matches_float(b, key, format.precision, format.exponent_bits) {
-            return Lookup::Found(bytes_le::fetch(targets, j, dw));
+            return Some(bytes_le::fetch(targets, j, dw));
         }
         j += 1;
     }
-    Lookup::Missing
+    None
 }
 
 // The target of the first of n entries whose key is the integer b, whatever its sign; sw and dw are the bytes of a key and of a target.
@@ -62,7 +61,7 @@ pub fn apply_scalar_map_int(
     n: usize,
     sw: usize,
     dw: usize,
-) -> Lookup
+) -> Option<u64>
     requires { MapBytes (8 * sw) b keys.now targets.now n sw dw }
     ensures { (signed : Bool) → result ≡ lookup_of (integer signed (8 * sw)) (value_of (integer signed (8 * sw)) b) (entries_from sw dw keys.now targets.now 0 n) }
 {
@@ -70,9 +69,9 @@ pub fn apply_scalar_map_int(
     while i < n {
         let key = bytes_le::fetch(keys, i, sw);
         if b == key {
-            return Lookup::Found(bytes_le::fetch(targets, i, dw));
+            return Some(bytes_le::fetch(targets, i, dw));
         }
         i += 1;
     }
-    Lookup::Missing
+    None
 }

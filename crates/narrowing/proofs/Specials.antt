@@ -18,7 +18,6 @@ use Rattle.patterns.proofs.Floats.{nan_lt, sign_is}
 use Rattle.patterns.proofs.Quiet.{quiet_lt}
 use Rattle.counts.specs.declared.Fared.TheVariants.{Exact}
 use Rattle.codes.specs.declared.OutOfRangeMode.{OutOfRangeMode}
-use Rattle.answers.specs.declared.Fit.TheVariants.{Pattern}
 use Rattle.floats.specs.Form.{CanonicalClass, f64_of}
 use Rattle.floats.specs.declared.Class.{Class}
 use Rattle.floats.specs.declared.Class.TheVariants.{Finite, Infinite, NotANumber}
@@ -27,6 +26,7 @@ use Rattle.floats.specs.contracts.Class.{the_type}
 use Rattle.float_fields.proofs.Signs.{signed_sum, signed_fits}
 use Rattle.float_range.specs.Range.{FormatBits}
 use Rattle.narrowing.specs.Fit.{Special, fit_class, fit_float}
+use Rattle.answers.specs.Outcome.{fit_as}
 
 -- a class that is not `Finite`, as a program tells it: by the number of its variant
 pub special : (c : Class) → OneOf (1 ∷ 2 ∷ []) (tag_of the_type c) → CanonicalClass c → Special c
@@ -36,10 +36,10 @@ special (NotANumber m) t h = h.1
 
 module _ (p w s : ℕ) (mode : RoundingMode) (range : OutOfRangeMode) (f : Float) where
   -- a special class that is not `NotANumber`
-  pub infinite_fit : Special f.class → OneOf (0 ∷ 1 ∷ []) (tag_of the_type f.class) → Pattern (infinity p w f.negative) Exact ≡ fit_float (binary p w s) mode range f
+  pub infinite_fit : Special f.class → OneOf (0 ∷ 1 ∷ []) (tag_of the_type f.class) → fit_as (infinity p w f.negative) Exact ≡ fit_float (binary p w s) mode range f
   infinite_fit = go f.class
     where
-      go : (c : Class) → Special c → OneOf (0 ∷ 1 ∷ []) (tag_of the_type c) → Pattern (infinity p w f.negative) Exact ≡ fit_class (binary p w s) mode range f c
+      go : (c : Class) → Special c → OneOf (0 ∷ 1 ∷ []) (tag_of the_type c) → fit_as (infinity p w f.negative) Exact ≡ fit_class (binary p w s) mode range f c
       go (Finite m) t u = absurd t
       go Infinite t u = refl
       go (NotANumber m) t u = absurd (⊎_elim (λ (e : ◌≡◌ {A = ℕ} 2 0). omega arith) (λ (e : ◌≡◌ {A = ℕ} 2 1). omega arith) u)
@@ -59,12 +59,12 @@ module _ (p w s : ℕ) (mode : RoundingMode) (range : OutOfRangeMode) (f : Float
         go true = omega arith
         go false = omega arith
 
-    pub nan_fit : p < 53 → Pattern (with_sign (w + p) f.negative (inf_bits p w + quiet 53 p t)) Exact ≡ fit_float (binary p w s) mode range f
+    pub nan_fit : p < 53 → fit_as (with_sign (w + p) f.negative (inf_bits p w + quiet 53 p t)) Exact ≡ fit_float (binary p w s) mode range f
     unfolding nan_pattern
     nan_fit less =
         sym (simp (ne_eqb 53 p (λ (z : 53 ≡ p). omega arith))
-        (ap (λ (b : Bool). Pattern (with_sign (w + p) b (inf_bits p w + quiet 53 p (f64_of f))) Exact) nan_sign
-        ∙ ap (λ (z : ℕ). Pattern (with_sign (w + p) f.negative (inf_bits p w + (2 ^ (p - 2) + z * 2 ^ (p - 1) / 2 ^ 52 % 2 ^ (p - 2)))) Exact) nan_fraction))
+        (ap (λ (b : Bool). fit_as (with_sign (w + p) b (inf_bits p w + quiet 53 p (f64_of f))) Exact) nan_sign
+        ∙ ap (λ (z : ℕ). fit_as (with_sign (w + p) f.negative (inf_bits p w + (2 ^ (p - 2) + z * 2 ^ (p - 1) / 2 ^ 52 % 2 ^ (p - 2)))) Exact) nan_fraction))
         ∙ ap (fit_class (binary p w s) mode range f) (sym e)
 
 -- ---- an infinity's pattern and a fraction, added

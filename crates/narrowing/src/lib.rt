@@ -7,6 +7,7 @@ ghost use Rattle.grid.specs.declared.RoundingMode.{RoundingMode};
 ghost use Rattle.patterns.specs.Kind.{binary};
 ghost use Rattle.patterns.specs.Pattern.{quiet};
 ghost use Rattle.codes.specs.declared.OutOfRangeMode.{OutOfRangeMode};
+ghost use Rattle.answers.specs.Outcome.{fit_as};
 ghost use Rattle.cast_spec.specs.Fit.{fit_number};
 ghost use Rattle.scaled.specs.Scaled.{Canonical};
 ghost use Rattle.float_range.specs.Range.{FormatBits};
@@ -68,7 +69,7 @@ fn quiet_fraction(fraction: u64, p: u32) -> u64
 // exact, whatever the spacing, the rule and the range choice.
 pub fn narrow_special(x: Float, p: u32, w: u32) -> u64
     requires { Special x.class × FormatBits p w }
-    ensures { (s : ℕ) (mode : RoundingMode) (range : OutOfRangeMode) → Fit.Pattern result Fared.Exact ≡ fit_float (binary p w s) mode range x }
+    ensures { (s : ℕ) (mode : RoundingMode) (range : OutOfRangeMode) → fit_as result Fared.Exact ≡ fit_float (binary p w s) mode range x }
 {
     let class = x.class;
     let infinity = float_range::infinity(x.negative, p, w);

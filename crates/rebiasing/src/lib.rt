@@ -6,7 +6,7 @@ ghost use Rattle.float_range.specs.Range.{FormatBits, fit_bits};
 ghost use Rattle.narrowing.specs.Format.{Narrower};
 ghost use Rattle.rebiasing.specs.Rebiased.{Rebiasable, rebiased, past_bits};
 
-use answers::Fit;
+use answers::{Fit, Stored};
 use codes::OutOfRangeMode;
 use grid::Ternary;
 
@@ -48,10 +48,10 @@ pub fn fit_rebiased(
     ensures { result ≡ fit_bits p w negative range (rebiased p s bits) ternary }
 {
     if bits < first_past(p, w, s) {
-        return Fit::Pattern {
+        return Ok(Stored {
             pattern: float_fields::sign_bit(negative, w + p - 1) + rebias(bits, p, s),
             fared: counts::by_pick(ternary),
-        };
+        });
     }
     float_range::overrun(negative, p, w, range)
 }

@@ -3,32 +3,26 @@
 
 ghost use Rattle.refusals.specs.Refusal.{RefusalOf};
 
-use answers::{Answer, Outcome};
+use answers::{Answer, ElementRefusal, Outcome, Refusal};
 
-// The answer that a refusal of the element at a position is; `Converted` where the element was stored.
+// The answer that a refusal of the element at a position is; `Ok` where the element was stored.
 pub fn refusal(position: usize, o: Outcome) -> Answer
     ensures { RefusalOf position o result }
 {
     match o {
-        Outcome::Stored {
-            pattern: _,
-            fared: _,
-        } => Answer::Converted,
-        Outcome::NanOrInf { value } => Answer::NanOrInf {
-            position: position,
-            value: value,
-        },
-        Outcome::OutOfRange { value, lo, hi } => Answer::OutOfRange {
-            position: position,
-            value: value,
-            lo: lo,
-            hi: hi,
-        },
-        Outcome::FloatOutOfRange { value, lo, hi } => Answer::FloatOutOfRange {
-            position: position,
-            value: value,
-            lo: lo,
-            hi: hi,
-        },
+        Ok(_) => Ok(()),
+        Err(ElementRefusal::NanOrInf { value }) => Err(Refusal::NanOrInf { position, value }),
+        Err(ElementRefusal::OutOfRange { value, lo, hi }) => Err(Refusal::OutOfRange {
+            position,
+            value,
+            lo,
+            hi,
+        }),
+        Err(ElementRefusal::FloatOutOfRange { value, lo, hi }) => Err(Refusal::FloatOutOfRange {
+            position,
+            value,
+            lo,
+            hi,
+        }),
     }
 }

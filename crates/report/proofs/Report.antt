@@ -9,14 +9,15 @@ use lib.Dec.{eqb}
 use lib.ListN.{length, length-append}
 use borrow.Author.Tests.{eq-eqb, ne_eqb}
 use Rattle.answers.specs.Answer.{number_of, names_position, position_of}
-use Rattle.answers.specs.declared.Answer.{Answer}
-use Rattle.answers.specs.declared.Answer.TheVariants.{Converted, UnknownCode, BrokenMap, BrokenElement, LengthMismatch, NanOrInf, OutOfRange, FloatOutOfRange, BarredWrap}
 use Rattle.text.specs.Text.{decimal}
 use Rattle.text.specs.Wrote.{Wrote}
 use Rattle.report.specs.Report.{refused, at, newline, ok_line, refused_line, lines, report}
 use Rattle.report.specs.Room.{LinesFit, ReportFits}
 use Rattle.text.proofs.Writes.{wrote_length, wrote_then}
 use Rattle.text.proofs.Numbers.{decimal_short, decimal_one}
+use Rattle.answers.specs.Outcome.{Answer}
+use Rattle.answers.specs.declared.Refusal.TheVariants.{BarredWrap, BrokenElement, BrokenMap, FloatOutOfRange, LengthMismatch, NanOrInf, OutOfRange, UnknownCode}
+use Rattle.std.specs.Prelude.{Err, Ok}
 
 -- ---- the first lines' lengths
 ok_short : (n : ℕ) → n < 10000 → length (ok_line n) ≤ 8
@@ -30,15 +31,15 @@ refused_short number position h l = go (names_position number)
     go false = omega (arith, length-append (decimal number) newline, decimal_one number h)
 
 pub number_small : (r : Answer) → number_of r < 10
-number_small Converted = omega arith
-number_small UnknownCode = omega arith
-number_small BrokenMap = omega arith
-number_small BrokenElement = omega arith
-number_small (LengthMismatch s d) = omega arith
-number_small (NanOrInf i v) = omega arith
-number_small (OutOfRange i v lo hi) = omega arith
-number_small (FloatOutOfRange i v lo hi) = omega arith
-number_small BarredWrap = omega arith
+number_small (Ok tt) = omega arith
+number_small (Err UnknownCode) = omega arith
+number_small (Err BrokenMap) = omega arith
+number_small (Err BrokenElement) = omega arith
+number_small (Err (LengthMismatch s d)) = omega arith
+number_small (Err (NanOrInf i v)) = omega arith
+number_small (Err (OutOfRange i v lo hi)) = omega arith
+number_small (Err (FloatOutOfRange i v lo hi)) = omega arith
+number_small (Err BarredWrap) = omega arith
 
 module _ (d bytes : List ℕ) (answer : Answer) (n w : ℕ) (ask : ReportFits d bytes answer n w) where
   -- k lines after a first line x

@@ -2,8 +2,8 @@
 use Rattle.std.specs.Prelude.{cond, List, [], ◌∷◌, ◌++◌, ℕ, zero, suc, ◌*◌, eqb}
 use Rattle.bytes_le.specs.Bytes.{pattern_at}
 use Rattle.answers.specs.Answer.{number_of, names_position, position_of}
-use Rattle.answers.specs.declared.Answer.{Answer}
 use Rattle.text.specs.Text.{digits, decimal}
+use Rattle.answers.specs.Outcome.{Answer}
 
 -- ---- words
 -- `ok `

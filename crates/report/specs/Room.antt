@@ -2,7 +2,7 @@
 use Rattle.std.specs.Prelude.{List, ℕ, ◌+◌, ◌*◌, ◌≤◌, ◌<◌, length}
 use Rattle.bytes_le.specs.Bytes.{Place, Width}
 use Rattle.answers.specs.Answer.{position_of}
-use Rattle.answers.specs.declared.Answer.{Answer}
+use Rattle.answers.specs.Outcome.{Answer}
 
 -- a line of two digits for each byte and its end fits at the place a of d
 pub record LineFits (d : List ℕ) (a : ℕ) (bytes : List ℕ) (from w : ℕ) : Type 0 where

@@ -6,17 +6,17 @@ ghost use Rattle.steps.specs.Steps.{stepped};
 ghost use Rattle.routes.specs.Route.{source_of, target_of, RouteRow};
 ghost use Rattle.route_steps.specs.Source.{SourcePattern};
 
-use answers::{Fit, Lookup};
+use answers::Fit;
 use codes::OutOfRangeMode;
 use grid::RoundingMode;
 use routes::Route;
 
 // By the route of the two kinds; to its own kind a pattern is unchanged. What was found is told first: then it is told once, whatever the route.
-pub fn step(b: u64, found: Lookup, route: Route, mode: RoundingMode, range: OutOfRangeMode) -> Fit
+pub fn step(b: u64, found: Option<u64>, route: Route, mode: RoundingMode, range: OutOfRangeMode) -> Fit
     requires { RouteRow route × SourcePattern b route }
     ensures { result ≡ stepped found (source_of route) (target_of route) mode range b }
 {
-    if let Lookup::Found(pattern) = found {
+    if let Some(pattern) = found {
         return answers::mapped(pattern);
     }
     match route {

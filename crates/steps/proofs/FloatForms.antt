@@ -16,7 +16,6 @@ use Rattle.patterns.proofs.Floats.{infinity_sign}
 use Rattle.patterns.proofs.Quiet.{nan_through}
 use Rattle.codes.specs.declared.OutOfRangeMode.{OutOfRangeMode}
 use Rattle.counts.specs.declared.Fared.TheVariants.{Exact}
-use Rattle.answers.specs.declared.Fit.TheVariants.{Pattern}
 use Rattle.cast_spec.specs.Element.{converted}
 use Rattle.scaled.specs.Scaled.{scaled_of}
 use Rattle.floats.specs.Form.{class_for, f64_of, float_of}
@@ -25,6 +24,7 @@ use Rattle.cast_spec.specs.Fit.{fit_number, fit_of}
 use Rattle.narrowing.specs.Fit.{fit_class, fit_float}
 use Rattle.cast_spec.specs.Fit.{unmapped}
 use Rattle.cast_spec.proofs.Filled.{fit_any}
+use Rattle.answers.specs.Outcome.{fit_as}
 
 module _ (p w s b : ℕ) (formed : Formed (binary p w s) b) (rule : RoundingMode) (range : OutOfRangeMode) where
   abbrev k : Kind
@@ -47,8 +47,8 @@ module _ (p w s b : ℕ) (formed : Formed (binary p w s) b) (rule : RoundingMode
     where
       go : (v : Value) → value_of k b ≡ v → fit_class (binary p' w' s') rule range (float_of k b) (class_for k b v) ≡ fit_of (converted (record { from = k; to = binary p' w' s'; rule = rule; range = range; entries = [] }) b (binary p' w' s') v)
       go (num x) e = number (binary p' w' s') x e
-      go (inf neg) e = ap (λ (c : Bool). Pattern (infinity p' w' c) Exact) (sym (infinity_sign p w s b neg e))
-      go nan e = ap (λ (z : ℕ). Pattern z Exact) (nans e)
+      go (inf neg) e = ap (λ (c : Bool). fit_as (infinity p' w' c) Exact) (sym (infinity_sign p w s b neg e))
+      go nan e = ap (λ (z : ℕ). fit_as z Exact) (nans e)
 
 -- ---- an f64 to any float kind, and a narrower float to f64 and to any of another precision, where a NaN goes by way of f64's
 pub f64_to_float : (p w s b : ℕ) → b < 2 ^ 64 → (rule : RoundingMode) (range : OutOfRangeMode) → fit_float (binary p w s) rule range (float_of f64 b) ≡ fit_of (unmapped f64 (binary p w s) rule range b)

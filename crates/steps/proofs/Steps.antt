@@ -9,10 +9,8 @@ use Rattle.kinds.specs.Row.{float_of, kind_in, FloatRow, FormatRow}
 use Rattle.kinds.specs.declared.FloatFormat.{FloatFormat}
 use Rattle.kinds.specs.declared.Format.{Format}
 use Rattle.kinds.specs.declared.Format.TheVariants.{Integer, Float}
-use Rattle.answers.specs.declared.Lookup.{Lookup}
 use Rattle.codes.specs.declared.OutOfRangeMode.{OutOfRangeMode}
 use Rattle.counts.specs.declared.Fared.TheVariants.{Exact}
-use Rattle.answers.specs.declared.Fit.TheVariants.{Pattern}
 use Rattle.kinds.proofs.FloatRows.{by_row}
 use Rattle.floats.specs.Form as form
 use Rattle.floats.specs.declared.Float as F
@@ -27,18 +25,20 @@ use Rattle.steps.specs.Steps.{found_fit, stepped}
 use Rattle.steps.proofs.FloatForms.{form_to_integer, f64_to_float, narrower_to_f64, narrower_to_narrower}
 use Rattle.steps.proofs.Integers.{integer_fit}
 use Rattle.steps.proofs.SameKind.{same_kind}
+use Rattle.answers.specs.Outcome.{fit_as}
+use Rattle.std.specs.Prelude.{Option}
 
 -- ---- of an integer, to any kind; and of a float, to an integer kind
-pub integer_steps : (b : ℕ) (s : Bool) (n : ℕ) → IntegerPattern b n → (x : I.Integer) → x ≡ magnitude_of (integer s n) b → (f : Lookup) (to : Kind) (mode : RoundingMode) (range : OutOfRangeMode) → found_fit f (fit_integer to mode range x) ≡ stepped f (integer s n) to mode range b
+pub integer_steps : (b : ℕ) (s : Bool) (n : ℕ) → IntegerPattern b n → (x : I.Integer) → x ≡ magnitude_of (integer s n) b → (f : Option ℕ) (to : Kind) (mode : RoundingMode) (range : OutOfRangeMode) → found_fit f (fit_integer to mode range x) ≡ stepped f (integer s n) to mode range b
 integer_steps b s n h x e f to mode range = ap (found_fit f) (integer_fit b s n h x e to mode range)
 
-pub float_to_integer_steps : (p w s b : ℕ) → Formed (binary p w s) b → (x : F.Float) → x ≡ form.float_of (binary p w s) b → (f : Lookup) (t : Bool) (n : ℕ) (mode : RoundingMode) (range : OutOfRangeMode) → found_fit f (fit_float (integer t n) mode range x) ≡ stepped f (binary p w s) (integer t n) mode range b
+pub float_to_integer_steps : (p w s b : ℕ) → Formed (binary p w s) b → (x : F.Float) → x ≡ form.float_of (binary p w s) b → (f : Option ℕ) (t : Bool) (n : ℕ) (mode : RoundingMode) (range : OutOfRangeMode) → found_fit f (fit_float (integer t n) mode range x) ≡ stepped f (binary p w s) (integer t n) mode range b
 float_to_integer_steps p w s b formed x e f t n mode range =
     ap (λ (z : F.Float). found_fit f (fit_float (integer t n) mode range z)) e
     ∙ ap (found_fit f) (form_to_integer p w s b formed mode range t n)
 
 -- ---- of a float, to a float kind
-pub f64_to_float_steps : (p w s b : ℕ) → b < 2 ^ 64 → (x : F.Float) → x ≡ form.float_of f64 b → (f : Lookup) (mode : RoundingMode) (range : OutOfRangeMode) → found_fit f (fit_float (binary p w s) mode range x) ≡ stepped f f64 (binary p w s) mode range b
+pub f64_to_float_steps : (p w s b : ℕ) → b < 2 ^ 64 → (x : F.Float) → x ≡ form.float_of f64 b → (f : Option ℕ) (mode : RoundingMode) (range : OutOfRangeMode) → found_fit f (fit_float (binary p w s) mode range x) ≡ stepped f f64 (binary p w s) mode range b
 f64_to_float_steps p w s b fits x e f mode range = ap (λ (z : F.Float). found_fit f (fit_float (binary p w s) mode range z)) e ∙ ap (found_fit f) (f64_to_float p w s b fits mode range)
 
 module _ (b : ℕ) (mode : RoundingMode) (range : OutOfRangeMode) where
@@ -60,5 +60,5 @@ row_well_formed : (f : Format) → FormatRow f → WellFormed (kind_in f)
 row_well_formed (Integer f) row = row.positive
 row_well_formed (Float f) row = by_row (λ (z : FloatFormat). WellFormed (float_of z)) (lit≤ tt, lit< tt) (lit≤ tt, lit< tt) (lit≤ tt, lit< tt) f row
 
-pub unchanged : (f : Format) → FormatRow f → (b : ℕ) → b < 2 ^ bits (kind_in f) → (mode : RoundingMode) (range : OutOfRangeMode) → Pattern b Exact ≡ fit_of (unmapped (kind_in f) (kind_in f) mode range b)
+pub unchanged : (f : Format) → FormatRow f → (b : ℕ) → b < 2 ^ bits (kind_in f) → (mode : RoundingMode) (range : OutOfRangeMode) → fit_as b Exact ≡ fit_of (unmapped (kind_in f) (kind_in f) mode range b)
 unchanged f row b fits mode range = ap fit_of (same_kind (kind_in f) (row_well_formed f row) b fits mode range)

@@ -17,16 +17,16 @@ use Rattle.patterns.proofs.AnyKind.{abs_in_range, largest_bits, pattern_back, pa
 use Rattle.patterns.proofs.Floats.{inf_back, inf_lt, infinity_bits, infinity_sign, mag_lt, number_of_format, sign_is, signed_again}
 use Rattle.counts.specs.declared.Fared.TheVariants.{Exact}
 use Rattle.codes.specs.declared.OutOfRangeMode.{OutOfRangeMode}
-use Rattle.answers.specs.declared.Outcome.TheVariants.{Stored}
 use Rattle.cast_spec.specs.Element.{converted}
 use Rattle.cast_spec.specs.Fit.{unmapped}
 use Rattle.steps.proofs.SameKind.{exactly}
+use Rattle.answers.specs.Outcome.{stored_as}
 
 -- the pattern b of the kind k goes to the pattern `wide` of k' and comes back, whatever the rules and range choices are
 pub record ThereAndBack (k k' : Kind) (b : ℕ) : Type 0 where
   pub wide : ℕ
-  pub there : (mode : RoundingMode) (range : OutOfRangeMode) → unmapped k k' mode range b ≡ Stored wide Exact
-  pub back : (mode : RoundingMode) (range : OutOfRangeMode) → unmapped k' k mode range wide ≡ Stored b Exact
+  pub there : (mode : RoundingMode) (range : OutOfRangeMode) → unmapped k k' mode range b ≡ stored_as wide Exact
+  pub back : (mode : RoundingMode) (range : OutOfRangeMode) → unmapped k' k mode range wide ≡ stored_as b Exact
 
 -- ---- from any format to one of no fewer significant bits, no coarser spacing and no smaller MAX
 module _ (p w s p' w' s' : ℕ) (ok : WellFormed (binary p w s)) (ok' : WellFormed (binary p' w' s')) (more : p ≤ p') (fine : s' ≤ s) (room : bits_mag p s (inf_bits p w - 1) ≤ bits_mag p' s' (inf_bits p' w' - 1)) (b : ℕ) (fits : b < 2 ^ (w + p)) where
@@ -66,8 +66,8 @@ module _ (p w s p' w' s' : ℕ) (ok : WellFormed (binary p w s)) (ok' : WellForm
       back = λ mode range.
           ap (converted (record { from = k'; to = k; rule = mode; range = range; entries = [] }) (pattern_of k' neg x) k) (pattern_back k' neg x ok' on' inside' (sign_of k b x e))
           ∙ exactly k ok mode range (as_f64 k' (pattern_of k' neg x)) (negative k' (pattern_of k' neg x)) x on inside
-          ∙ ap (λ (n : Bool). Stored (pattern_of k n x) Exact) wide_sign
-          ∙ ap (λ (z : ℕ). Stored z Exact) (sym (pattern_only k b neg x ok fits e refl));
+          ∙ ap (λ (n : Bool). stored_as (pattern_of k n x) Exact) wide_sign
+          ∙ ap (λ (z : ℕ). stored_as z Exact) (sym (pattern_only k b neg x ok fits e refl));
     }
 
   infinity_back : (n : Bool) → value_of k b ≡ inf n → ThereAndBack k k' b
@@ -76,7 +76,7 @@ module _ (p w s p' w' s' : ℕ) (ok : WellFormed (binary p w s)) (ok' : WellForm
     there = λ mode range. ap (converted (record { from = k; to = k'; rule = mode; range = range; entries = [] }) b k') e;
     back = λ mode range.
         ap (converted (record { from = k'; to = k; rule = mode; range = range; entries = [] }) (infinity p' w' n) k) (inf_back p' w' s' ok'.0 ok'.1 n)
-        ∙ ap (λ (z : ℕ). Stored z Exact) (ap₂ (with_sign (w + p)) (infinity_sign p w s b n e) (sym (infinity_bits p w s b n e)) ∙ signed_again p w s ok.0 ok.1 b fits);
+        ∙ ap (λ (z : ℕ). stored_as z Exact) (ap₂ (with_sign (w + p)) (infinity_sign p w s b n e) (sym (infinity_bits p w s b n e)) ∙ signed_again p w s ok.0 ok.1 b fits);
   }
 
   pub there_and_back : (value_of k b ≡ nan → ⊥) → ThereAndBack k k' b

@@ -9,7 +9,7 @@ ghost use Rattle.narrowing.specs.Fit.{fit_float};
 ghost use Rattle.integer_conversions.specs.Fit.{fit_integer};
 ghost use Rattle.steps.specs.Steps.{found_fit};
 
-use answers::{Fit, Lookup};
+use answers::Fit;
 use codes::OutOfRangeMode;
 use floats::Float;
 use grid::RoundingMode;
@@ -17,11 +17,11 @@ use integers::Integer;
 use kinds::{FloatFormat, IntegerFormat};
 
 // From an integer kind to an integer kind.
-pub fn step_int_to_int(x: Integer, found: Lookup, to: IntegerFormat, range: OutOfRangeMode) -> Fit
+pub fn step_int_to_int(x: Integer, found: Option<u64>, to: IntegerFormat, range: OutOfRangeMode) -> Fit
     requires { IntegerRow to }
     ensures { (mode : RoundingMode) → result ≡ found_fit found (fit_integer (integer_of to) mode range x) }
 {
-    if let Lookup::Found(pattern) = found {
+    if let Some(pattern) = found {
         return answers::mapped(pattern);
     }
     integer_conversions::convert_int_to_int(x, to, range)
@@ -30,7 +30,7 @@ pub fn step_int_to_int(x: Integer, found: Lookup, to: IntegerFormat, range: OutO
 // From an integer kind to a float kind.
 pub fn step_int_to_float(
     x: Integer,
-    found: Lookup,
+    found: Option<u64>,
     to: FloatFormat,
     mode: RoundingMode,
     range: OutOfRangeMode,
@@ -38,7 +38,7 @@ pub fn step_int_to_float(
     requires { FloatRow to }
     ensures { result ≡ found_fit found (fit_integer (float_of to) mode range x) }
 {
-    if let Lookup::Found(pattern) = found {
+    if let Some(pattern) = found {
         return answers::mapped(pattern);
     }
     integer_conversions::convert_int_to_float(x, to, mode, range)
@@ -47,7 +47,7 @@ pub fn step_int_to_float(
 // From a float kind to an integer kind.
 pub fn step_float_to_int(
     x: Float,
-    found: Lookup,
+    found: Option<u64>,
     to: IntegerFormat,
     mode: RoundingMode,
     range: OutOfRangeMode,
@@ -55,7 +55,7 @@ pub fn step_float_to_int(
     requires { CanonicalClass x.class × IntegerRow to }
     ensures { result ≡ found_fit found (fit_float (integer_of to) mode range x) }
 {
-    if let Lookup::Found(pattern) = found {
+    if let Some(pattern) = found {
         return answers::mapped(pattern);
     }
     float_conversions::convert_float_to_int(x, to, mode, range)
@@ -64,7 +64,7 @@ pub fn step_float_to_int(
 // From a float kind to a float kind.
 pub fn step_float_to_float(
     x: Float,
-    found: Lookup,
+    found: Option<u64>,
     to: FloatFormat,
     mode: RoundingMode,
     range: OutOfRangeMode,
@@ -72,7 +72,7 @@ pub fn step_float_to_float(
     requires { CanonicalClass x.class × FloatRow to }
     ensures { result ≡ found_fit found (fit_float (float_of to) mode range x) }
 {
-    if let Lookup::Found(pattern) = found {
+    if let Some(pattern) = found {
         return answers::mapped(pattern);
     }
     float_conversions::convert_float_to_float(x, to, mode, range)

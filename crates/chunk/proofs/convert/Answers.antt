@@ -9,15 +9,15 @@ use Rattle.chunk.proofs.convert.Goals as goal
 pub run-requires : goal.run-requires
 run-requires c =
     let a = c.args in
-    run_asks (inputs a.src.now a.dst.now a.keys.now a.targets.now a.from a.to a.rounding a.range) c.check.result c.check.ensures c.in-Passed.settings c.in-Passed.count c.in-Passed.is
+    run_asks (inputs a.src.now a.dst.now a.keys.now a.targets.now a.from a.to a.rounding a.range) c.check.result c.check.ensures c.in-Ok.call c.in-Ok.is
 
-pub returns-in-Refused : goal.returns-in-Refused
-returns-in-Refused c =
+pub returns-in-Err : goal.returns-in-Err
+returns-in-Err c =
     let a = c.args in
     let I = inputs a.src.now a.dst.now a.keys.now a.targets.now a.from a.to a.rounding a.range in
-    subst (λ (r : Reply). Contract I r I.destination) (sym c.refused.ensures) (refused_call I c.check.result c.check.ensures c.in-Refused.answer c.in-Refused.is)
+    subst (λ (r : Reply). Contract I r I.destination) (sym c.refused.ensures) (refused_call I c.check.result c.check.ensures c.in-Err.refusal c.in-Err.is)
 
-pub returns-in-Passed : goal.returns-in-Passed
-returns-in-Passed c =
+pub returns-in-Ok : goal.returns-in-Ok
+returns-in-Ok c =
     let a = c.args in
-    run_call (inputs a.src.now a.dst.now a.keys.now a.targets.now a.from a.to a.rounding a.range) c.check.result c.check.ensures c.in-Passed.settings c.in-Passed.count c.in-Passed.is c.run.result c.run.new.dst c.run.ensures
+    run_call (inputs a.src.now a.dst.now a.keys.now a.targets.now a.from a.to a.rounding a.range) c.check.result c.check.ensures c.in-Ok.call c.in-Ok.is c.run.result c.run.new.dst c.run.ensures

@@ -1,14 +1,14 @@
 -- Each way out is one of the laws of the checks.
-use Rattle.std.proofs.Common.{◌≡◌, ◌&&◌, not, true, false, eqb, ◌/◌, ◌%◌, length, sym, ap, ap₂, ◌∙◌}
+use Rattle.std.proofs.Common.{◌≡◌, ℕ, ◌&&◌, not, true, false, eqb, ◌/◌, ◌%◌, length, sym, ap, ap₂, ◌∙◌}
 use mathlib.Core.Bool.{Bool}
-use Rattle.answers.specs.declared.Answer.TheVariants as A
+use Rattle.answers.specs.declared.Refusal.TheVariants as A
 use Rattle.cast_spec.specs.Chunk.{Inputs, inputs, map_whole, bytes_whole, sw, dw}
 use Rattle.cast_spec.proofs.Refusals.{unknown, barred_wrap, broken_map, broken_element, mismatch}
 use Rattle.chunk_element.specs.declared.Settings.{Settings}
-use Rattle.chunk_checks.specs.declared.Checked.TheVariants.{Refused, Passed}
 use Rattle.chunk_settings.specs.Settings.{settings_by}
 use Rattle.chunk_checks.proofs.Exits.{refused, passed}
 use Rattle.chunk_checks.proofs.check.Goals as goal
+use Rattle.std.specs.Prelude.{Ok, Err}
 
 -- what the two tests of lengths tell, by the settings that the program has
 map_told : (I : Inputs) (s : Settings) (b : Bool) → s ≡ settings_by I.from I.to I.rounding I.range (length I.keys)
@@ -53,7 +53,7 @@ returns-then-n-m c =
     let s = c.settings_of-s in
     let n : length I.source / s.result.sw ≡ length I.source / sw I = ap (λ (s : Settings). length I.source / s.sw) s.ensures in
     let m : length I.destination / s.result.dw ≡ length I.destination / dw I = ap (λ (s : Settings). length I.destination / s.dw) s.ensures in
-    ap Refused (ap₂ A.LengthMismatch n m) ∙ refused I _
+    ap₂ (λ (s d : ℕ). Err (A.LengthMismatch s d)) n m ∙ refused I _
     (mismatch I (sym c.if-not-codes_listed.ensures) (ap not (sym c.if-wrap_barred.ensures)) (map_told I s.result true s.ensures c.if-not-whole_map.ensures) (bytes_told I s.result true s.ensures c.if-not-whole_elements.ensures) (λ d. c.if-n-m.true (n ∙ d ∙ sym m)))
 
 pub returns : goal.returns
@@ -63,5 +63,5 @@ returns c =
     let s = c.settings_of-s in
     let n : length I.source / s.result.sw ≡ length I.source / sw I = ap (λ (s : Settings). length I.source / s.sw) s.ensures in
     let m : length I.destination / s.result.dw ≡ length I.destination / dw I = ap (λ (s : Settings). length I.destination / s.dw) s.ensures in
-    ap (λ (s : Settings). Passed s (length I.source / s.sw)) s.ensures
+    ap (λ (s : Settings). Ok (record { settings = s; count = length I.source / s.sw })) s.ensures
     ∙ passed I (sym c.if-not-codes_listed.ensures) (ap not (sym c.if-wrap_barred.ensures)) (map_told I s.result true s.ensures c.if-not-whole_map.ensures) (bytes_told I s.result true s.ensures c.if-not-whole_elements.ensures) (sym n ∙ c.if-n-m.false ∙ m)

@@ -3,7 +3,6 @@ use Rattle.std.proofs.Common.{◌≡◌, ℕ, refl, sym, ap, ◌∙◌}
 use Rattle.kinds.specs.Row.{float_of}
 use Rattle.kinds.specs.declared.FloatFormat.{FloatFormat}
 use Rattle.counts.specs.declared.Fared.TheVariants.{Exact}
-use Rattle.answers.specs.declared.Fit.TheVariants.{Pattern}
 use Rattle.scaled.specs.declared.Scaled.{Scaled}
 use Rattle.floats.specs.Form.{CanonicalClass}
 use Rattle.floats.specs.declared.Class.{Class}
@@ -12,6 +11,7 @@ use Rattle.narrowing.specs.Fit.{Special, fit_float}
 use Rattle.kinds.proofs.FloatRows.{double}
 use Rattle.float_conversions.proofs.ToF64.{special_to_f64}
 use Rattle.float_conversions.proofs.convert_float_to_float.Goals as goal
+use Rattle.answers.specs.Outcome.{fit_as}
 
 -- a class that is not `Finite`
 not_finite : (k : Class) → ((x : Scaled) → k ≡ Finite x → ⊥) → CanonicalClass k → Special k
@@ -23,6 +23,6 @@ pub returns-in-53 : goal.returns-in-53
 returns-in-53 c =
     let a = c.args in
     c.exact.ensures
-    ∙ ap (λ (b : ℕ). Pattern b Exact) c.write_f64.ensures
+    ∙ ap (λ (b : ℕ). fit_as b Exact) c.write_f64.ensures
     ∙ special_to_f64 a.x (not_finite a.x.class c.in_default.not-Finite c.requires.0) a.mode a.range
     ∙ ap (λ (f : FloatFormat). fit_float (float_of f) a.mode a.range a.x) (sym (double a.to c.requires.1 c.in-53.is))

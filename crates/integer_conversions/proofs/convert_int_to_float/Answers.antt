@@ -5,7 +5,6 @@ use Rattle.grid.specs.Round.{rule_for}
 use Rattle.grid.specs.declared.Rounded.{Rounded}
 use Rattle.kinds.specs.Row.{float_of}
 use Rattle.kinds.specs.declared.FloatFormat.{FloatFormat}
-use Rattle.answers.specs.declared.Fit.TheVariants.{Pattern}
 use Rattle.float_fields.proofs.Signs.{signed_sum, signed_fits}
 use Rattle.integer_to_f64.specs.RoundedBits.{rounded_bits}
 use Rattle.integer_to_f64.proofs.Bounds.{pick_bits_lt}
@@ -15,6 +14,7 @@ use Rattle.narrowing.proofs.Rows.{row_narrower}
 use Rattle.integer_conversions.proofs.IntToFloat.{integer_to_f64, integer_rebiasable, integer_narrowed}
 use Rattle.integer_conversions.proofs.Rows.{row_precision, row_fine, row_early}
 use Rattle.integer_conversions.proofs.convert_int_to_float.Goals as goal
+use Rattle.answers.specs.Outcome.{fit_as}
 
 pub overflow_add-result : goal.overflow_add-result
 overflow_add-result c =
@@ -37,7 +37,7 @@ returns-in-53 c =
     let d = double a.to c.requires c.in-53.is in
     -- the pick at the row's precision
     let rounded : i.result ≡ rounded_bits 53 a.x.negative a.mode a.x.magnitude = i.ensures ∙ ap (λ (z : ℕ). rounded_bits z a.x.negative a.mode a.x.magnitude) (ap (λ (f : FloatFormat). f.precision) d) in
-    ap (λ (b : ℕ). Pattern b c.by_pick.result) (signed_sum 64 a.x.negative s.result i.result.bits s.ensures)
+    ap (λ (b : ℕ). fit_as b c.by_pick.result) (signed_sum 64 a.x.negative s.result i.result.bits s.ensures)
     ∙ integer_to_f64 a.x (omega arith) a.mode a.range i.result rounded c.by_pick.result c.by_pick.ensures
     ∙ ap (λ (f : FloatFormat). fit_integer (float_of f) a.mode a.range a.x) (sym d)
 
