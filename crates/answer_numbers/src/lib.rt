@@ -2,7 +2,7 @@
 #![tactic(auto)]
 
 ghost use Rattle.std.specs.Prelude.{◌≡◌};
-ghost use Rattle.answers.specs.Answer.{number_of, position_of, names_position};
+ghost use Rattle.answers.specs.Answer.{number_of, named_position, names_position};
 
 use answers::{Answer, Refusal};
 
@@ -38,14 +38,14 @@ pub fn names_position(number: usize) -> bool
     number <= LAST_AT_ELEMENT
 }
 
-// The position of the element that an answer refuses, and 0 of an answer that names none.
-pub fn position(a: Answer) -> usize
-    ensures { result ≡ position_of a }
+// The position of the element that an answer refuses, where it names one.
+pub fn position(a: Answer) -> Option<usize>
+    ensures { result ≡ named_position a }
 {
     match a {
-        Err(Refusal::NanOrInf { position, .. }) => position,
-        Err(Refusal::OutOfRange { position, .. }) => position,
-        Err(Refusal::FloatOutOfRange { position, .. }) => position,
-        _ => 0,
+        Err(Refusal::NanOrInf { position, .. }) => Some(position),
+        Err(Refusal::OutOfRange { position, .. }) => Some(position),
+        Err(Refusal::FloatOutOfRange { position, .. }) => Some(position),
+        _ => None,
     }
 }

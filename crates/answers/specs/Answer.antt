@@ -1,5 +1,5 @@
 -- To be believed: the papers' number and values for each case of an answer, and of what one element comes to; what a number leaves of the destination.
-use Rattle.std.specs.Prelude.{Bool, ◌&&◌, not, ℕ, ltb, leb, Ok, Err}
+use Rattle.std.specs.Prelude.{Bool, ◌&&◌, not, ℕ, ltb, leb, cond, Option, Some, None, Ok, Err}
 use Rattle.patterns.specs.Pattern.{low_bits}
 use Rattle.counts.specs.Counts.{no_counts}
 use Rattle.answers.specs.declared.ElementRefusal.TheVariants as E
@@ -61,6 +61,10 @@ values_of (Err BarredWrap) = no_values
 
 abbrev pub position_of : Answer → ℕ
 position_of r = (values_of r).position
+
+-- the position, where the answer names one
+abbrev pub named_position : Answer → Option ℕ
+named_position r = cond (names_position (number_of r)) (Some (position_of r)) None
 
 -- ---- of what the element at a position comes to: the refusal that it is, and 0 where it is stored
 abbrev pub outcome_number : Outcome → ℕ

@@ -93,7 +93,7 @@ module _ (I : Inputs) where
   before r e h i l = let d = (demand1 I).before (subst (λ (z : Answer). T (names_position (number_of z))) (sym e) h) i (subst (λ (z : Answer). i < position_of z) (sym e) l) in (d.pattern, d.fared, d.outcome)
 
   stored : (r : Answer) → answer_of I ≡ r → (i : ℕ) → i < converted_of n r → StoredAt o i
-  stored (Ok tt) e i l = let d = (demand1 I).all_converted (ap number_of e) i l in (d.pattern, d.fared, d.outcome)
+  stored (Ok all) e i l = let d = (demand1 I).all_converted (ap number_of e) i l in (d.pattern, d.fared, d.outcome)
   stored (Err A.UnknownCode) e i l = absurd (omega arith)
   stored (Err A.BrokenMap) e i l = absurd (omega arith)
   stored (Err A.BrokenElement) e i l = absurd (omega arith)
@@ -140,7 +140,7 @@ converted_le o (suc n) a = go (o a) (subst (λ (z : ℕ). converted_of z (answer
     go (Err (FloatOutOfRange v lo hi)) h = omega arith
 
 early_none : (n : ℕ) (r : Answer) → T (leaves_all (number_of r)) → converted_of n r ≡ 0
-early_none n (Ok tt) h = absurd h
+early_none n (Ok all) h = absurd h
 early_none n (Err A.UnknownCode) h = refl
 early_none n (Err A.BrokenMap) h = refl
 early_none n (Err A.BrokenElement) h = refl

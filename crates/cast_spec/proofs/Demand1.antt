@@ -31,7 +31,7 @@ use Rattle.answers.specs.declared.ElementRefusal.TheVariants.{FloatOutOfRange, N
 use Rattle.std.specs.Prelude.{Err, Ok}
 
 numbers : (r : Answer) → number_of r ≤ 8
-numbers (Ok tt) = lit≤ tt
+numbers (Ok all) = lit≤ tt
 numbers (Err A.UnknownCode) = lit≤ tt
 numbers (Err A.BrokenMap) = lit≤ tt
 numbers (Err A.BrokenElement) = lit≤ tt
@@ -147,7 +147,7 @@ refused_by k r v i (Err (FloatOutOfRange u lo hi)) s h = s
 
 -- an answer that names no position and is not the number 4 has no values
 plain_values : (r : Answer) → names_position (number_of r) ≡ false → number_of r ≢ 4 → values_of r ≡ no_values
-plain_values (Ok tt) h f = refl
+plain_values (Ok all) h f = refl
 plain_values (Err A.UnknownCode) h f = refl
 plain_values (Err A.BrokenMap) h f = refl
 plain_values (Err A.BrokenElement) h f = refl

@@ -85,7 +85,7 @@ module _ (I : Inputs) where
 
   -- behind them the bytes stay
   same_behind : (r : Answer) → answer_of I ≡ r → T (call_of I).passed → let k = converted_of (call_of I).count r * dw I in drop k I.destination ≡ drop k (destination_of I)
-  same_behind (Ok tt) e t =
+  same_behind (Ok all) e t =
       ap (λ (k : ℕ). drop k I.destination) (elements_fill I t) ∙ drop-length I.destination
       ∙ sym (ap (λ (k : ℕ). drop k (destination_of I)) (elements_fill I t ∙ sym long) ∙ drop-length (destination_of I))
   same_behind (Err A.UnknownCode) e t = untouched (Err A.UnknownCode) e tt (0 * dw I)

@@ -1,6 +1,11 @@
 -- An input that is refused has the refusal's line as its listing, and any other the report of its call on the parts as the program cuts them.
-use mathlib.Core.Path.{◌≡◌, sym, ap, ap₂, subst, ◌∙◌}
+use mathlib.Core.Path.{◌≡◌, refl, sym, ap, ap₂, subst, ◌∙◌}
+use mathlib.Core.Bool.{true, false, true≢false, false≢true}
 use mathlib.Core.List.{List}
+use Rattle.std.specs.Prelude.{Ok, Err, is_err}
+use Rattle.answers.specs.Answer.{number_of}
+use Rattle.answers.specs.Outcome.{Answer}
+use Rattle.answers.specs.declared.Refusal.TheVariants.{UnknownCode, BrokenMap, BrokenElement, LengthMismatch, NanOrInf, OutOfRange, FloatOutOfRange, BarredWrap}
 use Prim.Native.Nat.{ℕ, ◌-◌, ◌*◌, ◌≤◌}
 use native.Mathlib.Nat.{add-sub_cancel_left}
 use native.Mathlib.Omega.{arith}
@@ -63,3 +68,26 @@ module _ (s : List ℕ) (number : ℕ) (is : number ≡ refusal_of s) where
   pub refusal_listed : (number ≡ 0 → ⊥) → refused_line number 0 ≡ listing_of s
   unfolding listing_of
   refusal_listed h = ap (λ (z : ℕ). refused_line z 0) is ∙ sym (simp (ne_eqb (refusal_of s) 0 (λ (e : refusal_of s ≡ 0). h (is ∙ e))))
+
+-- ---- what the program tells of a check
+pub accepted_number : (r : Answer) → false ≡ is_err r → number_of r ≡ 0
+accepted_number (Ok all) e = refl
+accepted_number (Err UnknownCode) e = absurd (false≢true e)
+accepted_number (Err BrokenMap) e = absurd (false≢true e)
+accepted_number (Err BrokenElement) e = absurd (false≢true e)
+accepted_number (Err (LengthMismatch s d)) e = absurd (false≢true e)
+accepted_number (Err (NanOrInf i v)) e = absurd (false≢true e)
+accepted_number (Err (OutOfRange i v lo hi)) e = absurd (false≢true e)
+accepted_number (Err (FloatOutOfRange i v lo hi)) e = absurd (false≢true e)
+accepted_number (Err BarredWrap) e = absurd (false≢true e)
+
+pub error_number : (r : Answer) → true ≡ is_err r → number_of r ≡ 0 → ⊥
+error_number (Ok all) e z = absurd (true≢false e)
+error_number (Err UnknownCode) e z = omega arith
+error_number (Err BrokenMap) e z = omega arith
+error_number (Err BrokenElement) e z = omega arith
+error_number (Err (LengthMismatch s d)) e z = omega arith
+error_number (Err (NanOrInf i v)) e z = omega arith
+error_number (Err (OutOfRange i v lo hi)) e z = omega arith
+error_number (Err (FloatOutOfRange i v lo hi)) e z = omega arith
+error_number (Err BarredWrap) e z = omega arith

@@ -110,7 +110,7 @@ lines_checked w n [] R W W' d d' none h = h
 lines_checked w n (c ∷ cs) R W W' d d' none h = go c.passes (lines_checked w n cs R W W' d d' none.1 h)
   where
     go : (b : Bool) → lines w (cond (all_pass cs) W d) 0 (shown (tested cs R) n) ≡ lines w (cond (all_pass cs) W' d') 0 (shown (tested cs R) n)
-        → lines w (cond (b && all_pass cs) W d) 0 (shown (cond b (tested cs R) c.refusal) n) ≡ lines w (cond (b && all_pass cs) W' d') 0 (shown (cond b (tested cs R) c.refusal) n)
+        → lines w (cond (b && all_pass cs) W d) 0 (shown (cond b (tested cs R) (Err c.refusal)) n) ≡ lines w (cond (b && all_pass cs) W' d') 0 (shown (cond b (tested cs R) (Err c.refusal)) n)
     go true f = f
     go false f = ap (lines w d 0) none.0 ∙ sym (ap (lines w d' 0) none.0)
 

@@ -44,9 +44,9 @@ fn put_listing(input: &[u8], work: &mut [u8], out: &mut [u8]) -> usize
     requires { (65488 ≤ length work.old) × (139180 ≤ length out.old) }
     ensures { Wrote out.old 0 (listing_of input.now) result out.new }
 {
-    let number = listing_input::refusal(input);
-    if number != 0 {
-        return report::put_refused(out, number, 0);
+    let checked = listing_input::refusal(input);
+    if checked.is_err() {
+        return report::put_refused(out, answer_numbers::number(checked) as usize, 0);
     }
     let l = listing_input::layout_of(input);
     let targets = l.targets;

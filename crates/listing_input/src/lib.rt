@@ -1,9 +1,12 @@
-// An input of the listing: where its parts start, and the number that it is refused with before its call.
+// An input of the listing: where its parts start, and the refusal before its call.
 #![tactic(auto)]
 
 ghost use Rattle.std.specs.Prelude.{◌≡◌};
+ghost use Rattle.answers.specs.Answer.{number_of};
 ghost use Rattle.listing_input.specs.Input.{refusal_of};
 ghost use Rattle.listing_input.specs.Layouts.{HeadIn, layout_of};
+
+use answers::{Answer, Refusal};
 
 // The places of an input where the targets and the elements start.
 #[derive(Clone, Copy)]
@@ -27,28 +30,28 @@ pub fn layout_of(input: &[u8]) -> Layout
     }
 }
 
-// The number that an input is refused with before its call, or 0.
-pub fn refusal(input: &[u8]) -> usize
-    ensures { result ≡ refusal_of input.now }
+// Whether an input comes to its call, or the refusal before it.
+pub fn refusal(input: &[u8]) -> Answer
+    ensures { number_of result ≡ refusal_of input.now }
 {
     if input.len() < 6 {
-        return 1;
+        return Err(Refusal::UnknownCode);
     }
     if !codes::codes_listed(input[0], input[1], input[2], input[3]) {
-        return 1;
+        return Err(Refusal::UnknownCode);
     }
     if codes::wrap_barred(input[1], input[3]) {
-        return 8;
+        return Err(Refusal::BarredWrap);
     }
     let map_end = layout_of(input).elements;
     if 8192 < map_end {
-        return 2;
+        return Err(Refusal::BrokenMap);
     }
     if input.len() < map_end {
-        return 2;
+        return Err(Refusal::BrokenMap);
     }
     if 8192 < input.len() {
-        return 3;
+        return Err(Refusal::BrokenElement);
     }
-    0
+    Ok(())
 }

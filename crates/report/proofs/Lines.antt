@@ -79,42 +79,37 @@ lines_more w d i (suc k) =
     shift i k = omega arith
 
 -- the first i lines are written
-pub record LinesAt (d : List ℕ) (a : ℕ) (bytes : List ℕ) (w k i from to : ℕ) (d' : List ℕ) : Type 0 where
+pub record LinesAt (d : List ℕ) (a : ℕ) (bytes : List ℕ) (w k i to : ℕ) (d' : List ℕ) : Type 0 where
   pub order : i ≤ k
-  pub place : from ≡ i * w
   pub wrote : Wrote d a (lines w bytes 0 i) to d'
   pub same : length d' ≡ length d
 
 module _ (d : List ℕ) (a : ℕ) (bytes : List ℕ) (w k : ℕ) (ask : LinesFit d a bytes w k) where
-  pub lines_start : LinesAt d a bytes w k 0 0 a d
-  lines_start = record { order = omega arith; place = omega arith; wrote = wrote_none d a (omega (arith, ask.fits)); same = refl }
+  pub lines_start : LinesAt d a bytes w k 0 a d
+  lines_start = record { order = omega arith; wrote = wrote_none d a (omega (arith, ask.fits)); same = refl }
 
-  module _ (i from to : ℕ) (d' : List ℕ) (at : LinesAt d a bytes w k i from to d') where
+  module _ (i to : ℕ) (d' : List ℕ) (at : LinesAt d a bytes w k i to d') where
     pub lines_end : k ≤ i → Wrote d a (lines w bytes 0 k) to d'
     lines_end h = let e : i ≡ k = omega (arith, at.order) in subst (λ (z : ℕ). Wrote d a (lines w bytes 0 z) to d') e at.wrote
 
     module _ (more : i < k) where
-      pub from_within : from + w ≤ length bytes
-      from_within = subst (λ (z : ℕ). z + w ≤ length bytes) (sym at.place) (element_within w k i ask.whole more)
+      pub element_in : i * w + w ≤ length bytes
+      element_in = element_within w k i ask.whole more
 
-      pub line_asks : LineFits d' to bytes from w
+      pub line_asks : LineFits d' to bytes (i * w) w
       line_asks = record {
-        place = record { width = ask.width; within = from_within };
+        place = record { width = ask.width; within = element_in };
         fits = room;
       }
         where
           room : to + (2 * w + 1) ≤ length d'
           room = omega (arith, at.same, at.wrote.next, length_lines w bytes 0 i, ask.fits, element_within (2 * w + 1) k i (le_refl (k * (2 * w + 1))) more)
 
-      pub lines_go_on : (r : ℕ) (d'' : List ℕ) → Wrote d' to (line w (from_le (take w (drop from bytes)))) r d'' → LinesAt d a bytes w k (i + 1) (from + w) r d''
+      pub lines_go_on : (r : ℕ) (d'' : List ℕ) → Wrote d' to (line w (from_le (take w (drop (i * w) bytes)))) r d'' → LinesAt d a bytes w k (i + 1) r d''
       lines_go_on r d'' v = record {
         order = omega arith;
-        place = ap (λ (z : ℕ). z + w) at.place ∙ next i w;
         wrote = subst (λ (z : List ℕ). Wrote d a z r d'')
-            (ap (λ (z : ℕ). lines w bytes 0 i ++ line w (from_le (take w (drop z bytes)))) (at.place ∙ ap (λ (z : ℕ). z * w) (sym (zero-add i))) ∙ lines_more w bytes 0 i ∙ ap (lines w bytes 0) (sym (add-one i)))
+            (ap (λ (z : ℕ). lines w bytes 0 i ++ line w (from_le (take w (drop z bytes)))) (ap (λ (z : ℕ). z * w) (sym (zero-add i))) ∙ lines_more w bytes 0 i ∙ ap (lines w bytes 0) (sym (add-one i)))
             (wrote_then at.wrote v);
         same = wrote_length v ∙ at.same;
       }
-        where
-          next : (i l : ℕ) → i * l + l ≡ (i + 1) * l
-          next i l = omega arith

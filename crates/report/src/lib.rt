@@ -49,13 +49,9 @@ fn put_elements(out: &mut [u8], at: usize, bytes: &[u8], w: usize, k: usize) -> 
     requires { LinesFit out.old at bytes.now w k }
     ensures { Wrote out.old at (lines w bytes.now 0 k) result out.new }
 {
-    let mut i = 0;
-    let mut from = 0;
     let mut to = at;
-    while i < k {
-        to = put_element(out, to, bytes, from, w);
-        from += w;
-        i += 1;
+    for i in 0..k {
+        to = put_element(out, to, bytes, i * w, w);
     }
     to
 }
@@ -65,12 +61,12 @@ pub fn put_report(out: &mut [u8], bytes: &[u8], answer: Answer, n: usize, w: usi
     requires { ReportFits out.old bytes.now answer n w }
     ensures { Wrote out.old 0 (report answer n w bytes.now) result out.new }
 {
-    let number = answer_numbers::number(answer) as usize;
-    let position = answer_numbers::position(answer);
-    if number == 0 {
+    if answer.is_ok() {
         let at = put_ok(out, n);
         return put_elements(out, at, bytes, w, n);
     }
+    let number = answer_numbers::number(answer) as usize;
+    let position = answer_numbers::position(answer).unwrap_or(0);
     let at = put_refused(out, number, position);
     put_elements(out, at, bytes, w, position)
 }

@@ -5,8 +5,8 @@ use Prim.Native.Nat.{ℕ, ◌+◌, ◌≤◌, ◌<◌}
 use native.Mathlib.Nat.{add_assoc, add-zero}
 use native.Mathlib.Numerals.{add-one}
 use native.Mathlib.Omega.{arith}
-use lib.ListN.{length, get_or, set, take, drop, length-append, length-drop, take-append-drop}
-use lib.Seq.{take_at, drop_at, drop-drop, length-take-le, set_split, take-suc, take-length}
+use lib.ListN.{length, set, take, drop, length-append, length-drop, take-append-drop}
+use lib.Seq.{take_at, drop_at, drop-drop, length-take-le, set_split}
 use Rattle.text.specs.Wrote.{Wrote}
 
 pub wrote_none : (d : List ℕ) (a : ℕ) → a ≤ length d → Wrote d a [] a d
@@ -47,30 +47,3 @@ module _ {d : List ℕ} {a : ℕ} {xs : List ℕ} {r : ℕ} {d' : List ℕ} (w :
 
 pub wrote_as : {d : List ℕ} {a : ℕ} {xs ys : List ℕ} {r : ℕ} {d' : List ℕ} → xs ≡ ys → Wrote d a xs r d' → Wrote d a ys r d'
 wrote_as {d} {a} {xs} {ys} {r} {d'} e w = subst (λ (z : List ℕ). Wrote d a z r d') e w
-
--- ---- a text, byte by byte: its first i bytes are written
-pub record TextAt (d : List ℕ) (a : ℕ) (text : List ℕ) (i to : ℕ) (d' : List ℕ) : Type 0 where
-  pub most : i ≤ length text
-  pub wrote : Wrote d a (take i text) to d'
-  pub same : length d' ≡ length d
-  pub place : to ≡ a + i
-
-pub text_starts : (d : List ℕ) (a : ℕ) (text : List ℕ) → a + length text ≤ length d → TextAt d a text 0 a d
-text_starts d a text h = record { most = omega arith; wrote = wrote_none d a (omega arith); same = refl; place = sym (add-zero a) }
-
-module _ (d : List ℕ) (a : ℕ) (text : List ℕ) (room : a + length text ≤ length d) (i to : ℕ) (d' : List ℕ) (at : TextAt d a text i to d') where
-  pub text_goes_on : i < length text → TextAt d a text (i + 1) (to + 1) (set d' to (get_or text i 0))
-  text_goes_on more =
-      let one = wrote_one d' to (get_or text i 0) (omega (arith, at.place, at.same)) in
-      let both = wrote_then at.wrote one in record {
-        most = omega arith;
-        wrote = subst (λ (z : List ℕ). Wrote d a z (to + 1) (set d' to (get_or text i 0))) (sym (take-suc text i 0 more) ∙ ap (λ (z : ℕ). take z text) (sym (add-one i))) both;
-        same = wrote_length one ∙ at.same;
-        place = omega (arith, at.place);
-      }
-
-  pub text_ends : length text ≤ i → Wrote d a text to d'
-  text_ends h = subst (λ (z : List ℕ). Wrote d a z to d') (ap (λ (z : ℕ). take z text) (all (length text) i at.most h) ∙ take-length text) at.wrote
-    where
-      all : (n i : ℕ) → i ≤ n → n ≤ i → i ≡ n
-      all n i l m = omega arith

@@ -19,14 +19,9 @@ pub fn put_text(out: &mut [u8], at: usize, text: &[u8]) -> usize
     requires { at + length text.now ≤ length out.old }
     ensures { Wrote out.old at text.now result out.new }
 {
-    let mut to = at;
-    let mut i = 0;
-    while i < text.len() {
-        out[to] = text[i];
-        to += 1;
-        i += 1;
-    }
-    to
+    let end = at + text.len();
+    out[at..end].copy_from_slice(text);
+    end
 }
 
 // A digit's character.
@@ -43,11 +38,9 @@ pub fn put_digits(out: &mut [u8], at: usize, base: u64, k: usize, v: u64) -> usi
     ensures { Wrote out.old at (digits base k v) result out.new }
 {
     let end = at + k;
-    let mut to = end;
     let mut rest = v;
-    while at < to {
-        to -= 1;
-        out[to] = glyph(rest % base);
+    for place in (at..end).rev() {
+        out[place] = glyph(rest % base);
         rest /= base;
     }
     end

@@ -1,6 +1,5 @@
 -- One line more is written, and all of them are the elements'.
-use Rattle.std.proofs.Common.{arith}
-use Rattle.report.proofs.Lines.{lines_start, lines_end, from_within, line_asks, lines_go_on}
+use Rattle.report.proofs.Lines.{lines_start, lines_end, line_asks, lines_go_on}
 use Rattle.report.proofs.put_elements.Goals as goal
 
 pub loop-i-init : goal.loop-i-init
@@ -10,23 +9,17 @@ pub put_element-to-requires : goal.put_element-to-requires
 put_element-to-requires c =
     let a = c.args in
     let l = c.loop-i in
-    line_asks a.out.now a.at a.bytes.now a.w a.k c.requires l.i l.from l.to l.out l.invariant c.loop-i-test.true
-
-pub overflow_add-from : goal.overflow_add-from
-overflow_add-from c =
-    let a = c.args in
-    let l = c.loop-i in
-    record { fits = omega (arith, from_within a.out.now a.at a.bytes.now a.w a.k c.requires l.i l.from l.to l.out l.invariant c.loop-i-test.true) }
+    line_asks a.out.now a.at a.bytes.now a.w a.k c.requires l.i l.to l.out l.invariant c.loop-i-test.true
 
 pub loop-i-preserved : goal.loop-i-preserved
 loop-i-preserved c =
     let a = c.args in
     let l = c.loop-i in
     let x = c.put_element-to in
-    lines_go_on a.out.now a.at a.bytes.now a.w a.k c.requires l.i l.from l.to l.out l.invariant c.loop-i-test.true x.result x.new.out x.ensures
+    lines_go_on a.out.now a.at a.bytes.now a.w a.k c.requires l.i l.to l.out l.invariant c.loop-i-test.true x.result x.new.out x.ensures
 
 pub returns : goal.returns
 returns c =
     let a = c.args in
     let l = c.loop-i in
-    lines_end a.out.now a.at a.bytes.now a.w a.k c.requires l.i l.from l.to l.out l.invariant c.loop-i-test.false
+    lines_end a.out.now a.at a.bytes.now a.w a.k c.requires l.i l.to l.out l.invariant c.loop-i-test.false
