@@ -42,13 +42,11 @@ pub fn apply_scalar_map_float(
     requires { FloatRow format × MapBytes (bits (float_of format)) b keys.now targets.now n sw dw }
     ensures { result ≡ lookup_of (float_of format) (value_of (float_of format) b) (entries_from sw dw keys.now targets.now 0 n) }
 {
-    let mut j: usize = 0;
-    while j < n {
+    for j in 0..n {
         let key = bytes_le::fetch(keys, j, sw);
         if matches_float(b, key, format.precision, format.exponent_bits) {
             return Some(bytes_le::fetch(targets, j, dw));
         }
-        j += 1;
     }
     None
 }
@@ -65,13 +63,11 @@ pub fn apply_scalar_map_int(
     requires { MapBytes (8 * sw) b keys.now targets.now n sw dw }
     ensures { (signed : Bool) → result ≡ lookup_of (integer signed (8 * sw)) (value_of (integer signed (8 * sw)) b) (entries_from sw dw keys.now targets.now 0 n) }
 {
-    let mut i: usize = 0;
-    while i < n {
+    for i in 0..n {
         let key = bytes_le::fetch(keys, i, sw);
         if b == key {
             return Some(bytes_le::fetch(targets, i, dw));
         }
-        i += 1;
     }
     None
 }

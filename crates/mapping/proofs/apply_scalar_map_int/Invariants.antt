@@ -1,11 +1,8 @@
--- No entry before i matches, whatever the sign. The measure is what is left of n.
-use Rattle.std.proofs.Common.{◌-◌, ◌*◌, Bool}
+-- No entry before i matches, whatever the sign.
+use Rattle.std.proofs.Common.{◌*◌, Bool}
 use Rattle.patterns.specs.Kind.{integer}
 use Rattle.mapping.proofs.Entries.{Passed}
 use Rattle.mapping.proofs.apply_scalar_map_int.Given as goal
 
 abbrev pub invariant-loop-i : goal.invariant-loop-i
 invariant-loop-i l = (signed : Bool) → Passed (integer signed (8 * l.sw)) l.b l.keys l.targets l.n l.sw l.dw l.i
-
-abbrev pub decreases-loop-i : goal.decreases-loop-i
-decreases-loop-i l = l.n - l.i
