@@ -32,10 +32,7 @@ pub fn number(a: Answer) -> u8
 pub fn names_position(number: usize) -> bool
     ensures { result ≡ names_position number }
 {
-    if number < FIRST_AT_ELEMENT {
-        return false;
-    }
-    number <= LAST_AT_ELEMENT
+    FIRST_AT_ELEMENT <= number && number <= LAST_AT_ELEMENT
 }
 
 // The position of the element that an answer refuses, where it names one.

@@ -30,33 +30,21 @@ const FIRST_FLOAT: u8 = 8;
 pub fn rules_listed(rounding: u8, range: u8) -> bool
     ensures { result ≡ ltb rounding 5 && ltb range 3 }
 {
-    if LISTED_ROUNDINGS <= rounding {
-        return false;
-    }
-    range < LISTED_RANGES
+    rounding < LISTED_ROUNDINGS && range < LISTED_RANGES
 }
 
 // Whether every code of a call is listed.
 pub fn codes_listed(from: u8, to: u8, rounding: u8, range: u8) -> bool
     ensures { result ≡ ltb from 11 && ltb to 11 && ltb rounding 5 && ltb range 3 }
 {
-    if LISTED_KINDS <= from {
-        return false;
-    }
-    if LISTED_KINDS <= to {
-        return false;
-    }
-    rules_listed(rounding, range)
+    from < LISTED_KINDS && to < LISTED_KINDS && rules_listed(rounding, range)
 }
 
 // Whether the codes ask for wrap with a float target.
 pub fn wrap_barred(to: u8, range: u8) -> bool
     ensures { result ≡ wrap_barred to range }
 {
-    if range != WRAP {
-        return false;
-    }
-    FIRST_FLOAT <= to
+    range == WRAP && FIRST_FLOAT <= to
 }
 
 // The rounding rule of a code; the codes 0 to 4 are listed.

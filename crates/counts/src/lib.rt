@@ -32,8 +32,7 @@ pub fn by_pick(ternary: Ternary) -> Fared
 {
     match ternary {
         Ternary::Exact => Fared::Exact,
-        Ternary::Below => Fared::Rounded,
-        Ternary::Above => Fared::Rounded,
+        Ternary::Below | Ternary::Above => Fared::Rounded,
     }
 }
 

@@ -25,36 +25,25 @@ fn end_magnitude(to: IntegerFormat, negative: bool) -> u64
 fn refuses(range: OutOfRangeMode) -> bool
     ensures { result ≡ refusing range }
 {
-    match range {
-        OutOfRangeMode::None => true,
-        OutOfRangeMode::Clamp => false,
-        OutOfRangeMode::Wrap => false,
-    }
+    matches!(range, OutOfRangeMode::None)
 }
 
 // Whether it clamps one.
 fn clamps(range: OutOfRangeMode) -> bool
     ensures { result ≡ clamping range }
 {
-    match range {
-        OutOfRangeMode::None => false,
-        OutOfRangeMode::Clamp => true,
-        OutOfRangeMode::Wrap => false,
-    }
+    matches!(range, OutOfRangeMode::Clamp)
 }
 
 // How a pick fared that is stored, by whether it lies past the range, and then is clamped or wrapped, and by where it lies beside its element.
 fn fared(past: bool, clamp: bool, ternary: Ternary) -> Fared
     ensures { result ≡ cond past (cond clamp Fared.Clamped Fared.Wrapped) (by_pick ternary) }
 {
-    if past {
-        return if clamp {
-            Fared::Clamped
-        } else {
-            Fared::Wrapped
-        };
+    match (past, clamp) {
+        (false, _) => counts::by_pick(ternary),
+        (true, true) => Fared::Clamped,
+        (true, false) => Fared::Wrapped,
     }
-    counts::by_pick(ternary)
 }
 
 // A whole number to an integer kind, by the range choice: its sign, its magnitude modulo 2^64, whether the magnitude exceeds 64 bits, and where the

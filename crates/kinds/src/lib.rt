@@ -1,4 +1,4 @@
-// The eleven number kinds, in one constant table.
+// The eleven number kinds, in one table.
 #![tactic(auto)]
 
 ghost use Rattle.std.specs.Prelude.{◌≡◌, ◌<◌};
@@ -121,7 +121,7 @@ pub const F64: FloatFormat = FloatFormat {
 };
 
 // The eleven kinds, in the order of their codes.
-const KINDS: [KindRow; 11] = [
+static KINDS: [KindRow; 11] = [
     KindRow {
         bytes: 1,
         format: Format::Integer(I8),

@@ -8,10 +8,7 @@ pub fn whole_elements(first: usize, second: usize, a: usize, b: usize) -> bool
     requires { (0 < a) × (0 < b) }
     ensures { result ≡ eqb (first % a) 0 && eqb (second % b) 0 }
 {
-    if first % a != 0 {
-        return false;
-    }
-    second % b == 0
+    first % a == 0 && second % b == 0
 }
 
 // Whether so many bytes of keys and of targets are whole elements, and as many.
@@ -19,8 +16,5 @@ pub fn whole_map(keys: usize, targets: usize, a: usize, b: usize) -> bool
     requires { (0 < a) × (0 < b) }
     ensures { result ≡ eqb (keys % a) 0 && eqb (targets % b) 0 && eqb (keys / a) (targets / b) }
 {
-    if whole_elements(keys, targets, a, b) {
-        return keys / a == targets / b;
-    }
-    false
+    whole_elements(keys, targets, a, b) && keys / a == targets / b
 }

@@ -32,12 +32,10 @@ pub enum Route {
 fn integer_route(from: IntegerFormat, to: IntegerFormat) -> Route
     ensures { result ≡ integer_route from to }
 {
-    if from.bits == to.bits {
-        if from.signed == to.signed {
-            return Route::Same(Format::Integer(from));
-        }
+    if from.bits == to.bits && from.signed == to.signed {
+        return Route::Same(Format::Integer(from));
     }
-    Route::IntToInt { from: from, to: to }
+    Route::IntToInt { from, to }
 }
 
 // The route of two float formats.
@@ -47,7 +45,7 @@ fn float_route(from: FloatFormat, to: FloatFormat) -> Route
     if from.precision == to.precision {
         return Route::Same(Format::Float(from));
     }
-    Route::FloatToFloat { from: from, to: to }
+    Route::FloatToFloat { from, to }
 }
 
 // The route of two formats.
