@@ -6,6 +6,7 @@ use Rattle.patterns.specs.Float.{bits_mag, inf_bits}
 -- f64, or a format of fewer significant bits p with w bits of exponent field and the smallest spacing 2^s, whose numbers are numbers of f64
 pub record Format (p w s : ℕ) : Type 0 where
   pub two : 2 ≤ p
+  pub at_most_53 : p ≤ 53
   pub positive : 0 < w
   pub at_most_11 : w ≤ 11
   pub fine : s ≤ 1074

@@ -30,13 +30,13 @@ unfolding bits_mag
 f64_top = record { m = (2 ^ 53 - 1) * 2 ^ 971; e = 1074; written = (refl, refl) }
 
 pub f16_format : Format 11 5 1050
-f16_format = record { two = lit≤ tt; positive = lit< tt; at_most_11 = lit≤ tt; fine = lit≤ tt; narrower_or_f64 = inl (lit< tt, lit< tt); within_f64 = f16_within_f64; whole_top = f16_top }
+f16_format = record { two = lit≤ tt; at_most_53 = lit≤ tt; positive = lit< tt; at_most_11 = lit≤ tt; fine = lit≤ tt; narrower_or_f64 = inl (lit< tt, lit< tt); within_f64 = f16_within_f64; whole_top = f16_top }
 
 pub f32_format : Format 24 8 925
-f32_format = record { two = lit≤ tt; positive = lit< tt; at_most_11 = lit≤ tt; fine = lit≤ tt; narrower_or_f64 = inl (lit< tt, lit< tt); within_f64 = f32_within_f64; whole_top = f32_top }
+f32_format = record { two = lit≤ tt; at_most_53 = lit≤ tt; positive = lit< tt; at_most_11 = lit≤ tt; fine = lit≤ tt; narrower_or_f64 = inl (lit< tt, lit< tt); within_f64 = f32_within_f64; whole_top = f32_top }
 
 pub f64_format : Format 53 11 0
-f64_format = record { two = lit≤ tt; positive = lit< tt; at_most_11 = lit≤ tt; fine = lit≤ tt; narrower_or_f64 = inr (refl, refl, refl); within_f64 = le_refl _; whole_top = f64_top }
+f64_format = record { two = lit≤ tt; at_most_53 = lit≤ tt; positive = lit< tt; at_most_11 = lit≤ tt; fine = lit≤ tt; narrower_or_f64 = inr (refl, refl, refl); within_f64 = le_refl _; whole_top = f64_top }
 
 pub f16_widens : Widens 11 5 1050
 f16_widens = record { two = lit≤ tt; at_most_24 = lit≤ tt; positive = lit< tt; start = lit≤ tt; within = lit≤ tt }

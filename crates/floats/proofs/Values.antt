@@ -121,8 +121,8 @@ own_nan b fits e =
     split b h = omega arith
 
 pub format_formed : (p w s : ℕ) → Format p w s → (b : ℕ) → b < 2 ^ (w + p) → Formed (binary p w s) b
-format_formed p w s f b fits = ⊎_elim (λ (n : (p < 53) × (53 - p < s)). formed p w s f.two f.positive (omega arith) f.within_f64 b (λ _. narrower_nan p w s b n.0))
-    (λ (e : (p ≡ 53) × (w ≡ 11) × (s ≡ 0)). formed p w s f.two f.positive (omega arith) f.within_f64 b
+format_formed p w s f b fits = ⊎_elim (λ (n : (p < 53) × (53 - p < s)). formed p w s f.two f.positive f.at_most_53 f.within_f64 b (λ _. narrower_nan p w s b n.0))
+    (λ (e : (p ≡ 53) × (w ≡ 11) × (s ≡ 0)). formed p w s f.two f.positive f.at_most_53 f.within_f64 b
     (subst (λ (q : ℕ). value_of (binary q w s) b ≡ nan → NanForm (binary q w s) b) (sym e.0)
     (subst (λ (v : ℕ). value_of (binary 53 v s) b ≡ nan → NanForm (binary 53 v s) b) (sym e.1)
     (subst (λ (u : ℕ). value_of (binary 53 11 u) b ≡ nan → NanForm (binary 53 11 u) b) (sym e.2)
