@@ -6,7 +6,7 @@ use Rattle.kinds.specs.Row.{float_of, FloatRow}
 use Rattle.kinds.specs.declared.FloatFormat.{FloatFormat}
 use Rattle.kinds.proofs.FloatRows.{by_row}
 use Rattle.float_fields.specs.Widened.{Widens}
-use Rattle.float_fields.proofs.Widenings.{f16_widens, f32_widens}
+use Rattle.float_fields.specs.Formats.{f16_widens, f32_widens}
 use Rattle.floats.proofs.Values.{Formed, f16_formed, f32_formed, f64_formed}
 
 pub row_formed : (f : FloatFormat) → FloatRow f → (b : ℕ) → b < 2 ^ bits (float_of f) → Formed (float_of f) b

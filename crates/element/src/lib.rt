@@ -10,8 +10,8 @@ ghost use Rattle.floats.specs.Form as form;
 ghost use Rattle.element.specs.Element.{FloatPattern, FormatPattern, element_of, element_f64, CanonicalElement};
 
 use answers::{ConversionError, ElementRefusal, Fit, Outcome};
-use float_fields::Widened;
-use floats::Float;
+use float_fields::{NarrowerBits, Widened};
+use floats::{Float, ReadFloat};
 use integers::Integer;
 use kinds::{FloatFormat, Format};
 
@@ -31,8 +31,8 @@ fn widen(b: u64, format: FloatFormat) -> Widened
 {
     let precision = format.precision;
     match precision {
-        11 => float_fields::widen_f16(b as u16),
-        _ => float_fields::widen_f32(b as u32),
+        11 => (b as u16).widen(),
+        _ => (b as u32).widen(),
     }
 }
 
@@ -43,7 +43,7 @@ pub fn read_float(b: u64, format: FloatFormat) -> Float
 {
     let precision = format.precision;
     match precision {
-        53 => floats::read_f64(b),
+        53 => b.read(),
         _ => floats::read_widened(widen(b, format)),
     }
 }

@@ -20,9 +20,11 @@ sign_bit b t h = cut b t
     (λ (l : t ≤ b). eq-eqb (b / t) 1 (div-eq_of_lt-le t (omega arith) (omega arith)) ∙ sym (le-leb t b l))
 
 -- ---- shifts and masks
-pub parts_is : (p w b : ℕ) → 0 < w + p → b < 2 ^ (w + p)
-    → ◌≡◌ {A = Parts} (record { negative = eqb (b / 2 ^ (w + p - 1)) 1; exponent = bit_and (b / 2 ^ (p - 1)) (2 ^ w - 1); fraction = bit_and b (2 ^ (p - 1) - 1) }) (parts_of p w b)
-parts_is p w b some h = simp (sign_bit b (2 ^ (w + p - 1)) (lt_of_lt_of_le h (omega (arith, pow_twice_pred (w + p) some))), and_mask (b / 2 ^ (p - 1)) w, and_mask b (p - 1))
+pub parts_is : (p w b : ℕ) → 0 < p → b < 2 ^ (w + p)
+    → ◌≡◌ {A = Parts} (record { negative = eqb (b / 2 ^ (w + (p - 1))) 1; exponent = bit_and (b / 2 ^ (p - 1)) (2 ^ w - 1); fraction = bit_and b (2 ^ (p - 1) - 1) }) (parts_of p w b)
+parts_is p w b some h =
+    let top : w + (p - 1) ≡ w + p - 1 = omega arith in
+    simp (top, sign_bit b (2 ^ (w + p - 1)) (lt_of_lt_of_le h (omega (arith, pow_twice_pred (w + p) (omega arith)))), and_mask (b / 2 ^ (p - 1)) w, and_mask b (p - 1))
 
 -- ---- the bits below the sign are the field over the fraction
 module _ (p w b : ℕ) (some : 0 < p) where

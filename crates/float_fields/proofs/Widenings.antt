@@ -5,7 +5,7 @@ use Prim.Native.Nat.{ℕ, ◌+◌, ◌-◌, ◌*◌, ◌%◌, ◌^◌, ◌≤◌
 use native.Mathlib.Nat.{add-mul, lt_of_lt_of_le, le_of_eq, mod-eq_of_lt, mod-lt}
 use native.Mathlib.Omega.{arith}
 use lib.Bits.{bit_and, and_mask}
-use lib.Dec.{eqb, lit<, lit≤}
+use lib.Dec.{eqb, lit≤}
 use lib.Pow.{pow-add, pow_pos, shl_exact, shl_lt}
 use borrow.Author.Tests.{eq-eqb, ne_eqb}
 use Rattle.grid.proofs.Neighbours.{cut}
@@ -133,10 +133,3 @@ module _ (p w s b : ℕ) (format : Widens p w s) (f : Widened) (is : f ≡ widen
       ∙ sym (low_of_shifted f.fraction 22 29)
       ∙ ap (λ (z : ℕ). z % 2 ^ 51) (ap (λ (z : ℕ). z * 2 ^ 29) fraction_of_lem ∙ times_pow t d 29 ∙ ap (λ (z : ℕ). t * 2 ^ z) up))
       ∙ sym (quiet_at_top p 53 b P (omega (arith, format.at_most_24)))
-
--- ---- f16 and f32
-pub f16_widens : Widens 11 5 1050
-f16_widens = record { two = lit≤ tt; at_most_24 = lit≤ tt; positive = lit< tt; start = lit≤ tt; within = lit≤ tt }
-
-pub f32_widens : Widens 24 8 925
-f32_widens = record { two = lit≤ tt; at_most_24 = lit≤ tt; positive = lit< tt; start = lit≤ tt; within = lit≤ tt }

@@ -1,2 +1,4 @@
+pub mod Format
+pub mod Formats
 pub mod Parts
 pub mod Widened

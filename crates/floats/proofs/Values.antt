@@ -1,8 +1,9 @@
 -- A float element has its pattern's value, is canonical, and is written as the f64 that the papers give it: for any format within f64's.
-use mathlib.Core.Path.{◌≡◌, refl, sym, ap, subst, ◌∙◌}
+use mathlib.Core.Path.{◌≡◌, refl, sym, ap, ap₂, subst, ◌∙◌}
 use mathlib.Core.Bool.{Bool}
+use mathlib.Core.Logic.{⊎_elim}
 use Prim.Native.Nat.{ℕ, ◌+◌, ◌-◌, ◌*◌, ◌%◌, ◌^◌, ◌≤◌, ◌<◌}
-use native.Mathlib.Nat.{le_refl, le_trans, mod-lt}
+use native.Mathlib.Nat.{le_of_eq, le_trans, lt_of_lt_of_le, mod-lt}
 use native.Mathlib.Omega.{arith}
 use lib.Dec.{lit<, lit≤}
 use lib.IntN.{ℤ, nat_abs}
@@ -18,6 +19,8 @@ use Rattle.patterns.specs.Value.{Value, nan, inf, num, negative, value_of}
 use Rattle.patterns.specs.Pattern.{as_f64, as_f64_from, mag_bits, nan_pattern, pattern_of, with_sign}
 use Rattle.patterns.proofs.AnyKind.{largest_bits, sign_of}
 use Rattle.patterns.proofs.Floats.{infinity_sign, mag_lt, nan_bits, number_of_format, signed_again}
+use Rattle.float_fields.specs.Format.{Format}
+use Rattle.float_fields.specs.Formats.{f16_within_f64, f32_within_f64, f64_format}
 use Rattle.scaled.specs.Scaled.{scaled_of}
 use Rattle.scaled.specs.declared.Scaled.{Scaled}
 use Rattle.scaled.proofs.Magnitudes.{scaled_bits, scaled_leading, scaled_small, scaled_whole}
@@ -95,15 +98,7 @@ module _ (p w s : ℕ) (two : 2 ≤ p) (some : 0 < w) (most : p ≤ 53) (room : 
       written (inf n) v = ap (λ (c : Bool). with_sign 64 c (inf_bits 53 11)) (sym (infinity_sign p w s b n v))
       written nan v = (nans v).pattern
 
--- ---- f16, f32 and f64
-pub f16_within_f64 : bits_mag 11 1050 (inf_bits 11 5 - 1) ≤ bits_mag 53 0 (inf_bits 53 11 - 1)
-unfolding bits_mag
-f16_within_f64 = lit≤ tt
-
-pub f32_within_f64 : bits_mag 24 925 (inf_bits 24 8 - 1) ≤ bits_mag 53 0 (inf_bits 53 11 - 1)
-unfolding bits_mag
-f32_within_f64 = lit≤ tt
-
+-- ---- a NaN, and each format
 narrower_nan : (p w s b : ℕ) → p < 53 → NanForm (binary p w s) b
 unfolding nan_pattern
 narrower_nan p w s b less =
@@ -125,6 +120,15 @@ own_nan b fits e =
     split : (b : ℕ) → inf_bits 53 11 < b % 2 ^ 63 → b % 2 ^ 63 ≡ inf_bits 53 11 + b % 2 ^ 52
     split b h = omega arith
 
+pub format_formed : (p w s : ℕ) → Format p w s → (b : ℕ) → b < 2 ^ (w + p) → Formed (binary p w s) b
+format_formed p w s f b fits = ⊎_elim (λ (n : (p < 53) × (53 - p < s)). formed p w s f.two f.positive f.at_most_53 f.within_f64 b (λ _. narrower_nan p w s b n.0))
+    (λ (e : (p ≡ 53) × (w ≡ 11) × (s ≡ 0)). formed p w s f.two f.positive f.at_most_53 f.within_f64 b
+    (subst (λ (q : ℕ). value_of (binary q w s) b ≡ nan → NanForm (binary q w s) b) (sym e.0)
+    (subst (λ (v : ℕ). value_of (binary 53 v s) b ≡ nan → NanForm (binary 53 v s) b) (sym e.1)
+    (subst (λ (u : ℕ). value_of (binary 53 11 u) b ≡ nan → NanForm (binary 53 11 u) b) (sym e.2)
+    (own_nan b (lt_of_lt_of_le fits (le_of_eq (ap₂ (λ (v q : ℕ). 2 ^ (v + q)) e.1 e.0))))))))
+    f.narrower_or_f64
+
 pub f16_formed : (b : ℕ) → Formed f16 b
 f16_formed b = formed 11 5 1050 (lit≤ tt) (lit< tt) (lit≤ tt) f16_within_f64 b (λ _. narrower_nan 11 5 1050 b (lit< tt))
 
@@ -132,7 +136,7 @@ pub f32_formed : (b : ℕ) → Formed f32 b
 f32_formed b = formed 24 8 925 (lit≤ tt) (lit< tt) (lit≤ tt) f32_within_f64 b (λ _. narrower_nan 24 8 925 b (lit< tt))
 
 pub f64_formed : (b : ℕ) → b < 2 ^ 64 → Formed f64 b
-f64_formed b fits = formed 53 11 0 (lit≤ tt) (lit< tt) (lit≤ tt) (le_refl _) b (own_nan b fits)
+f64_formed = format_formed 53 11 0 f64_format
 
 -- what a pattern is read as is canonical
 pub read_canonical : (k : Kind) (b : ℕ) → Formed k b → (x : Float) → x ≡ float_of k b → CanonicalClass x.class

@@ -3,11 +3,11 @@
 #![tactic(auto)]
 
 ghost use Rattle.std.specs.Prelude.{◌≡◌, ℕ};
-ghost use Rattle.patterns.specs.Kind.{binary, f16, f32, f64};
+ghost use Rattle.patterns.specs.Kind.{binary};
 ghost use Rattle.float_fields.specs.Widened.{Widens, WidenedFields, widened_of};
 ghost use Rattle.floats.specs.Form.{finite_float, infinite_or_nan, float_of, CanonicalClass, f64_of};
 
-use float_fields::Widened;
+use float_fields::{FloatBits, NarrowerBits, Widened};
 use scaled::Scaled;
 
 // What a float is but for its sign. A NaN has its fraction as an f64 has it.
@@ -54,21 +54,6 @@ fn infinite_or_nan(negative: bool, fraction: u64, nan: u64) -> Float
     }
 }
 
-// An f64's bits as an element.
-#[tactic(auto, using(crate::proofs::Arms::f64_zero_field, crate::proofs::Arms::f64_middle_field, crate::proofs::Arms::f64_top_field))]
-pub fn read_f64(b: u64) -> Float
-    ensures { result ≡ float_of f64 b }
-{
-    let parts = float_fields::parts_f64(b);
-    let exponent = parts.exponent;
-    let fraction = parts.fraction;
-    match exponent {
-        0 => finite(parts.negative, fraction, 0),
-        1..=2046 => finite(parts.negative, 0x10_0000_0000_0000 + fraction, exponent - 1),
-        2047.. => infinite_or_nan(parts.negative, fraction, fraction),
-    }
-}
-
 // The element of a float narrower than f64, by its widened fields; a NaN's highest fraction bit is set.
 pub fn read_widened(f: Widened) -> Float
     requires { WidenedFields f }
@@ -89,18 +74,36 @@ pub fn read_widened(f: Widened) -> Float
     }
 }
 
-// An f32's bits as an element.
-pub fn read_f32(b: u32) -> Float
-    ensures { result ≡ float_of f32 b }
-{
-    read_widened(float_fields::widen_f32(b))
+// The bits of a float, read as an element.
+pub trait ReadFloat: FloatBits {
+    fn read(self) -> Float
+        ensures { result ≡ float_of (binary Self.PRECISION Self.EXPONENT_BITS Self.SPACING) (Self.pattern self) };
 }
 
-// An f16's bits as an element.
-pub fn read_f16(b: u16) -> Float
-    ensures { result ≡ float_of f16 b }
-{
-    read_widened(float_fields::widen_f16(b))
+impl ReadFloat for u64 {
+    #[tactic(auto, using(crate::proofs::Arms::f64_zero_field, crate::proofs::Arms::f64_middle_field, crate::proofs::Arms::f64_top_field))]
+    fn read(self) -> Float {
+        let parts = self.parts();
+        let exponent = parts.exponent;
+        let fraction = parts.fraction;
+        match exponent {
+            0 => finite(parts.negative, fraction, 0),
+            1..=2046 => finite(parts.negative, 0x10_0000_0000_0000 + fraction, exponent - 1),
+            2047.. => infinite_or_nan(parts.negative, fraction, fraction),
+        }
+    }
+}
+
+impl ReadFloat for u32 {
+    fn read(self) -> Float {
+        read_widened(self.widen())
+    }
+}
+
+impl ReadFloat for u16 {
+    fn read(self) -> Float {
+        read_widened(self.widen())
+    }
 }
 
 // The f64 of an element.

@@ -28,9 +28,10 @@ use Rattle.patterns.specs.Pattern.{mag_bits, pattern_of, with_sign}
 use Rattle.patterns.specs.Value.{Value, nan, inf, num, value_of}
 use Rattle.patterns.proofs.AnyKind.{largest_bits}
 use Rattle.patterns.proofs.Floats.{abs_signed, number_of_format}
-use Rattle.scaled.specs.Scaled.{Canonical, scaled_of}
+use Rattle.float_fields.specs.Format.{Format}
+use Rattle.scaled.specs.Scaled.{Canonical, finite_bits, scaled_of}
 use Rattle.scaled.specs.declared.Scaled.{Scaled}
-use Rattle.scaled.proofs.Magnitudes.{scaled_only, scaled_whole}
+use Rattle.scaled.proofs.Magnitudes.{scaled_bits, scaled_only, scaled_whole}
 use Rattle.floats.specs.Form.{class_for, float_of}
 use Rattle.floats.specs.declared.Class.TheVariants.{Finite}
 use Rattle.floats.specs.declared.Float.{Float}
@@ -38,8 +39,10 @@ use Rattle.floats.specs.contracts.Class.{the_type}
 use Rattle.floats.proofs.Values.{read_value, scaled_canonical}
 use Rattle.rounding.specs.Rounding.{units_of}
 use Rattle.rounding.proofs.Units.{whole_times_unit}
+use Rattle.narrowing.specs.Format.{narrowed}
 use Rattle.integral.specs.Integral.{rounded_from, rounded_of}
-use Rattle.integral.specs.Whole.{integral_of}
+use Rattle.integral.specs.declared.WholeMagnitude.{WholeMagnitude}
+use Rattle.integral.specs.Whole.{exactly, integral_of}
 
 -- ---- a magnitude of p significant bits below the spacing 1
 module _ (r : RoundingMode) (p m e : ℕ) (positive : 0 < p) (small : m < 2 ^ p) (below : e < 1074) where
@@ -151,16 +154,26 @@ module _ (p w s : ℕ) (mode : RoundingMode) (b : ℕ) (x : Float) (is : x ≡ f
         (lies ∙ ap (ternary_of (signed neg n)) (sym signed_pick))
         ∙ ap (rounded_from k mode b) (sym value)
 
-    -- narrowed from its 53 bits, the whole number is the same
-    pub narrowed : pick_mag (float p s) (rule_for neg mode) ((scaled_of P).significand * 2 ^ (scaled_of P).exponent) ≡ P
-    narrowed =
-        ap (pick_mag (float p s) (rule_for neg mode)) (scaled_whole P (finer p s 53 0 P most (omega arith) own_grid))
-        ∙ ap nat_abs ((picked_pos (float p s) two (rule_for neg mode) P).itself own_grid)
+    -- by significand and exponent it is the same
+    pub own_value : (i : WholeMagnitude) → i ≡ integral_of neg mode (m.significand * 2 ^ m.exponent) → i.magnitude.significand * 2 ^ i.magnitude.exponent ≡ P
+    own_value i e = ap (λ (w : WholeMagnitude). w.magnitude.significand * 2 ^ w.magnitude.exponent) e ∙ scaled_whole P (finer p s 53 0 P most (omega arith) own_grid)
 
-pub f16_top : OnMag (whole 1074) (bits_mag 11 1050 (inf_bits 11 5 - 1))
-unfolding bits_mag
-f16_top = record { m = (2 ^ 11 - 1) * 2 ^ 5; e = 1074; written = (refl, refl) }
+-- ---- a magnitude of the format, in its bits
+pub written_in_f64 : (p w s : ℕ) → Format p w s → p ≡ 53 → (x : Scaled) → Canonical x → OnMag (float p s) (x.significand * 2 ^ x.exponent) → record { bits = finite_bits x; ternary = Exact } ≡ exactly (mag_bits p s (x.significand * 2 ^ x.exponent))
+written_in_f64 p w s f e x canonical on =
+    ap exactly
+    (subst (λ (q : ℕ). OnMag (float q s) n → finite_bits x ≡ mag_bits q s n) (sym e)
+    (subst (λ (u : ℕ). OnMag (float 53 u) n → finite_bits x ≡ mag_bits 53 u n) (sym none)
+    (λ (on : OnMag (float 53 0) n). ap finite_bits (scaled_only x.significand x.exponent canonical.small canonical.leading) ∙ scaled_bits n on))
+    on)
+  where
+    n : ℕ
+    n = x.significand * 2 ^ x.exponent
 
-pub f32_top : OnMag (whole 1074) (bits_mag 24 925 (inf_bits 24 8 - 1))
-unfolding bits_mag
-f32_top = record { m = (2 ^ 24 - 1) * 2 ^ 104; e = 1074; written = (refl, refl) }
+    none : s ≡ 0
+    none = ⊎_elim (λ (l : (p < 53) × (53 - p < s)). absurd (omega (arith, l.0))) (λ (k : (p ≡ 53) × (w ≡ 11) × (s ≡ 0)). k.2) f.narrower_or_f64
+
+pub written_narrower : (p s : ℕ) → 2 ≤ p → (neg : Bool) (mode : RoundingMode) (n : ℕ) → OnMag (float p s) n → narrowed p s neg mode n ≡ exactly (mag_bits p s n)
+written_narrower p s two neg mode n on =
+    let itself : pick_mag (float p s) (rule_for neg mode) n ≡ n = ap nat_abs ((picked_pos (float p s) two (rule_for neg mode) n).itself on) in
+    ap₂ {C = Rounded} (λ (z : ℕ) (t : Ternary). record { bits = z; ternary = t }) (ap (mag_bits p s) itself) (exact_is _ _ (ap (signed neg) itself))

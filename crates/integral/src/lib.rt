@@ -2,15 +2,15 @@
 #![tactic(auto)]
 
 ghost use Rattle.std.specs.Prelude.{◌≡◌, ◌*◌, ◌^◌, ◌<◌, ◌≤◌};
-ghost use Rattle.patterns.specs.Kind.{binary, f16, f32, f64};
+ghost use Rattle.grid.specs.Grid.{OnMag, float};
+ghost use Rattle.patterns.specs.Kind.{binary};
+ghost use Rattle.patterns.specs.Pattern.{mag_bits};
 ghost use Rattle.scaled.specs.Scaled.{Canonical};
-ghost use Rattle.floats.specs.Form.{CanonicalClass, float_of};
-ghost use Rattle.float_range.specs.Range.{FormatBits};
-ghost use Rattle.narrowing.specs.Format.{Narrower};
 ghost use Rattle.integral.specs.Integral.{rounded_of};
-ghost use Rattle.integral.specs.Whole.{integral_of, WholeTop};
+ghost use Rattle.integral.specs.Whole.{exactly, integral_of};
 
-use floats::{Class, Float};
+use float_fields::FloatBits;
+use floats::{Class, ReadFloat};
 use grid::{Rounded, RoundingMode, Ternary};
 use scaled::Scaled;
 
@@ -34,69 +34,45 @@ fn integral(x: Scaled, mode: RoundingMode, negative: bool) -> WholeMagnitude
         };
     }
     let whole = whole_numbers::round_to_whole(x, mode, negative);
-    let ternary = whole.ternary;
     WholeMagnitude {
         magnitude: scaled::normalize(whole.magnitude, 1074),
-        ternary: ternary,
+        ternary: whole.ternary,
     }
 }
 
-// An f64 rounded to a whole number, with its sign, and where that lies; an infinity and a NaN stay.
-pub fn round_with_mode_f64(b: u64, mode: RoundingMode) -> Rounded
-    ensures { result ≡ rounded_of f64 mode b }
+// A magnitude that the format has, as the bits below a sign: writing it rounds nothing.
+fn write_own<B: FloatBits>(x: Scaled, mode: RoundingMode, negative: bool) -> Rounded
+    requires { Canonical x × OnMag (float B.PRECISION B.SPACING) (x.significand * 2 ^ x.exponent) }
+    ensures { result ≡ exactly (mag_bits B.PRECISION B.SPACING (x.significand * 2 ^ x.exponent)) }
 {
-    let x = floats::read_f64(b);
+    if B::PRECISION == 53 {
+        return Rounded {
+            bits: scaled::finite_bits(x),
+            ternary: Ternary::Exact,
+        };
+    }
+    narrowing::narrow_magnitude(x, B::PRECISION, B::SPACING, mode, negative)
+}
+
+// A float rounded to a whole number of its format, with its sign, and where that lies; an infinity and a NaN stay.
+pub fn round_with_mode<B: ReadFloat>(b: B, mode: RoundingMode) -> Rounded
+    ensures { result ≡ rounded_of (binary B.PRECISION B.EXPONENT_BITS B.SPACING) mode (B.pattern b) }
+{
+    let x = b.read();
     let negative = x.negative;
     let class = x.class;
+    let bits = b.to_u64();
     let Class::Finite(magnitude) = class else {
         return Rounded {
-            bits: b,
+            bits,
             ternary: Ternary::Exact,
         };
     };
-    let whole = integral(magnitude, mode, negative);
-    let rounded = whole.magnitude;
-    let ternary = whole.ternary;
+    let rounded = integral(magnitude, mode, negative);
+    let sign = float_fields::sign_bit(negative, B::EXPONENT_BITS + B::PRECISION - 1);
+    let written = write_own::<B>(rounded.magnitude, mode, negative);
     Rounded {
-        bits: float_fields::sign_bit(negative, 63) + scaled::finite_bits(rounded),
-        ternary: ternary,
+        bits: sign + written.bits,
+        ternary: rounded.ternary,
     }
-}
-
-// The element x of the pattern b likewise, in the format of p significant bits, w bits of exponent field and the smallest spacing 2^s. The whole
-// number has the format's precision, so writing it rounds nothing.
-fn round_narrower(b: u64, x: Float, p: u32, w: u32, s: u64, mode: RoundingMode) -> Rounded
-    requires { (x ≡ float_of (binary p w s) b) × CanonicalClass x.class × Narrower p s × FormatBits p w × WholeTop p w s }
-    ensures { result ≡ rounded_of (binary p w s) mode b }
-{
-    let negative = x.negative;
-    let class = x.class;
-    let Class::Finite(magnitude) = class else {
-        return Rounded {
-            bits: b,
-            ternary: Ternary::Exact,
-        };
-    };
-    let whole = integral(magnitude, mode, negative);
-    let rounded = whole.magnitude;
-    let ternary = whole.ternary;
-    let written = narrowing::narrow_magnitude(rounded, p, s, mode, negative);
-    Rounded {
-        bits: float_fields::sign_bit(negative, w + p - 1) + written.bits,
-        ternary: ternary,
-    }
-}
-
-// An f32 likewise.
-pub fn round_with_mode_f32(b: u32, mode: RoundingMode) -> Rounded
-    ensures { result ≡ rounded_of f32 mode b }
-{
-    round_narrower(b as u64, floats::read_f32(b), 24, 8, 925, mode)
-}
-
-// An f16 likewise.
-pub fn round_with_mode_f16(b: u16, mode: RoundingMode) -> Rounded
-    ensures { result ≡ rounded_of f16 mode b }
-{
-    round_narrower(b as u64, floats::read_f16(b), 11, 5, 1050, mode)
 }

@@ -11,44 +11,42 @@ ghost use Rattle.integer_rounding.specs.Precision.{Precision};
 use answers::{ConversionError, Fit, Stored};
 use codes::OutOfRangeMode;
 use counts::Fared;
-use floats::{Class, Float};
+use float_fields::FloatBits;
+use floats::{Class, Float, ReadFloat};
 use grid::{Rounded, RoundingMode, Ternary};
 use kinds::FloatFormat;
 use std::io;
 
-// A number in hexadecimal, of at least so many digits.
-fn print_hex(rt: &impl Print, x: u64, width: usize) -> io::Result<()> {
-    print!(rt; "{x:0width$x}")
+const MODES: [RoundingMode; 5] = [
+    RoundingMode::NearestEven,
+    RoundingMode::TowardsZero,
+    RoundingMode::TowardsPositive,
+    RoundingMode::TowardsNegative,
+    RoundingMode::NearestAway,
+];
+
+fn sign(negative: bool) -> char {
+    if negative { '-' } else { '+' }
 }
 
-fn text(rt: &impl Print, s: &[u8]) -> io::Result<()> {
-    rt.write_all(s)
-}
-
-fn number(rt: &impl Print, n: u64, width: usize) -> io::Result<()> {
-    rt.write_all(b" ")?;
-    print_hex(rt, n, width)
-}
-
-fn end(rt: &impl Print) -> io::Result<()> {
-    rt.write_all(b"\n")
-}
-
-fn wide(x: u32) -> u64 {
-    x as u64
-}
-
-fn wide_16(x: u16) -> u64 {
-    x as u64
-}
-
-fn sign(rt: &impl Print, negative: bool) -> io::Result<()> {
-    if negative {
-        text(rt, b" -")?;
-    } else {
-        text(rt, b" +")?;
+// Where a pick lies: at the element, below it or above it.
+fn side(t: Ternary) -> char {
+    match t {
+        Ternary::Exact => '=',
+        Ternary::Below => '<',
+        Ternary::Above => '>',
     }
-    Ok(())
+}
+
+// How an element fared, by the first letter.
+fn initial(f: Fared) -> char {
+    match f {
+        Fared::Mapped => 'm',
+        Fared::Exact => 'e',
+        Fared::Rounded => 'r',
+        Fared::Clamped => 'c',
+        Fared::Wrapped => 'w',
+    }
 }
 
 // ---- bytes
@@ -57,10 +55,19 @@ fn sign(rt: &impl Print, negative: bool) -> io::Result<()> {
 fn elements(rt: &impl Print, s: &[u8], n: usize, width: usize) -> io::Result<()>
     requires { Width width × (n * width ≤ length s.now) }
 {
+    let digits = 2 * width;
     for i in 0..n {
-        number(rt, bytes_le::fetch(s, i, width), 2 * width)?;
+        print!(rt; " {:0digits$x}", bytes_le::fetch(s, i, width))?;
     }
     Ok(())
+}
+
+// The eight bytes of x, at a place of d.
+fn put(d: &mut [u8], at: usize, x: u64)
+    requires { at + 8 ≤ length d.old }
+    ensures { length d.new ≡ length d.old }
+{
+    store_le::write_le(d, at, 8, x);
 }
 
 // The eight bytes of x, as elements of one, two, four and eight bytes.
@@ -68,318 +75,258 @@ fn bytes(rt: &impl Print, s: &mut [u8], x: u64) -> io::Result<()>
     requires { length s.old ≡ 8 }
     ensures { length s.new ≡ 8 }
 {
-    text(rt, b"bytes")?;
+    print!(rt; "bytes")?;
     put(s, 0, x);
     elements(rt, s, 8, 1)?;
     elements(rt, s, 4, 2)?;
     elements(rt, s, 2, 4)?;
     elements(rt, s, 1, 8)?;
-    end(rt)
+    println!(rt; "")
 }
 
-// ---- float parts
+// ---- the fields of a float, what it is read as, and its neighbours
 
-fn parts_64(rt: &impl Print, b: u64) -> io::Result<()> {
-    let p = float_fields::parts_f64(b);
-    text(rt, b"parts_f64")?;
-    number(rt, b, 16)?;
-    sign(rt, p.negative)?;
-    number(rt, p.exponent, 3)?;
-    number(rt, p.fraction, 13)?;
-    end(rt)
+// The bits of a format, which name it.
+fn width<B: FloatBits>() -> usize {
+    (B::EXPONENT_BITS + B::PRECISION) as usize
 }
 
-fn parts_32(rt: &impl Print, b: u32) -> io::Result<()> {
-    let p = float_fields::parts_f32(b);
-    text(rt, b"parts_f32")?;
-    number(rt, wide(b), 8)?;
-    sign(rt, p.negative)?;
-    number(rt, p.exponent, 2)?;
-    number(rt, p.fraction, 6)?;
-    end(rt)
+// A float's pattern, of all its digits.
+fn put_pattern<B: FloatBits>(rt: &impl Print, b: B) -> io::Result<()> {
+    let digits = width::<B>() / 4;
+    print!(rt; " {:0digits$x}", b.to_u64())
 }
 
-fn parts_16(rt: &impl Print, b: u16) -> io::Result<()> {
-    let p = float_fields::parts_f16(b);
-    text(rt, b"parts_f16")?;
-    number(rt, wide_16(b), 4)?;
-    sign(rt, p.negative)?;
-    number(rt, p.exponent, 2)?;
-    number(rt, p.fraction, 3)?;
-    end(rt)
+fn put_parts<B: FloatBits>(rt: &impl Print, b: B) -> io::Result<()> {
+    let parts = b.parts();
+    let exponent_digits = B::EXPONENT_BITS.div_ceil(4) as usize;
+    let fraction_digits = (B::PRECISION - 1).div_ceil(4) as usize;
+    print!(rt; "parts_f{}", width::<B>())?;
+    put_pattern(rt, b)?;
+    print!(rt;
+        " {} {:0exponent_digits$x}",
+        sign(parts.negative),
+        parts.exponent
+    )?;
+    println!(rt; " {:0fraction_digits$x}", parts.fraction)
 }
 
-// The sign of a float, and a finite number's significand and exponent, or what else it is.
-fn put_float(rt: &impl Print, x: Float) -> io::Result<()> {
-    sign(rt, x.negative)?;
-    let class = x.class;
-    match class {
-        Class::Finite(magnitude) => {
-            number(rt, magnitude.significand, 14)?;
-            number(rt, magnitude.exponent, 3)?;
-        }
-        Class::Infinite => text(rt, b" infinite")?,
-        Class::NotANumber { fraction } => {
-            text(rt, b" nan")?;
-            number(rt, fraction, 13)?;
-        }
+fn all_parts<B: FloatBits>(rt: &impl Print, samples: &[B]) -> io::Result<()> {
+    for b in samples {
+        put_parts(rt, *b)?;
     }
-    end(rt)
-}
-
-fn read_64(rt: &impl Print, b: u64) -> io::Result<()> {
-    text(rt, b"read_f64")?;
-    number(rt, b, 16)?;
-    put_float(rt, floats::read_f64(b))
-}
-
-fn read_32(rt: &impl Print, b: u32) -> io::Result<()> {
-    text(rt, b"read_f32")?;
-    number(rt, wide(b), 8)?;
-    put_float(rt, floats::read_f32(b))
-}
-
-fn read_16(rt: &impl Print, b: u16) -> io::Result<()> {
-    text(rt, b"read_f16")?;
-    number(rt, wide_16(b), 4)?;
-    put_float(rt, floats::read_f16(b))
-}
-
-// The ends of the three ranges of an exponent field.
-fn float_readers(rt: &impl Print) -> io::Result<()> {
-    read_64(rt, 0x000fffffffffffff)?;
-    read_64(rt, 0x8010000000000000)?;
-    read_64(rt, 0x7fefffffffffffff)?;
-    read_64(rt, 0xfff0000000000000)?;
-    read_64(rt, 0x7ff0000000000001)?;
-    read_32(rt, 0x007fffff)?;
-    read_32(rt, 0x80800000)?;
-    read_32(rt, 0x7f7fffff)?;
-    read_32(rt, 0xff800000)?;
-    read_32(rt, 0x7f800001)?;
-    read_16(rt, 0x03ff)?;
-    read_16(rt, 0x8400)?;
-    read_16(rt, 0x7bff)?;
-    read_16(rt, 0xfc00)?;
-    read_16(rt, 0x7c01)
-}
-
-fn neighbours_64(rt: &impl Print, b: u64) -> io::Result<()> {
-    text(rt, b"next_down_f64, next_up_f64")?;
-    number(rt, b, 16)?;
-    number(rt, neighbours::next_down_f64(b), 16)?;
-    number(rt, neighbours::next_up_f64(b), 16)?;
-    end(rt)
-}
-
-fn neighbours_32(rt: &impl Print, b: u32) -> io::Result<()> {
-    text(rt, b"next_down_f32, next_up_f32")?;
-    number(rt, wide(b), 8)?;
-    number(rt, wide(neighbours::next_down_f32(b)), 8)?;
-    number(rt, wide(neighbours::next_up_f32(b)), 8)?;
-    end(rt)
-}
-
-fn neighbours_16(rt: &impl Print, b: u16) -> io::Result<()> {
-    text(rt, b"next_down_f16, next_up_f16")?;
-    number(rt, wide_16(b), 4)?;
-    number(rt, wide_16(neighbours::next_down_f16(b)), 4)?;
-    number(rt, wide_16(neighbours::next_up_f16(b)), 4)?;
-    end(rt)
-}
-
-fn widened(rt: &impl Print, b: u32) -> io::Result<()> {
-    text(rt, b"read_f32, write_f64")?;
-    number(rt, wide(b), 8)?;
-    number(rt, floats::write_f64(floats::read_f32(b)), 16)?;
-    end(rt)
-}
-
-fn widened_16(rt: &impl Print, b: u16) -> io::Result<()> {
-    text(rt, b"read_f16, write_f64")?;
-    number(rt, wide_16(b), 4)?;
-    number(rt, floats::write_f64(floats::read_f16(b)), 16)?;
-    end(rt)
+    Ok(())
 }
 
 fn float_parts(rt: &impl Print) -> io::Result<()> {
     // 2.5, -0.5, the smallest subnormal, the largest number, an infinity, a NaN
-    parts_64(rt, 0x4004000000000000)?;
-    parts_64(rt, 0xbfe0000000000000)?;
-    parts_64(rt, 0x0000000000000001)?;
-    parts_64(rt, 0x7fefffffffffffff)?;
-    parts_64(rt, 0xfff0000000000000)?;
-    parts_64(rt, 0x7ff8000000000000)?;
-    parts_32(rt, 0x40200000)?;
-    parts_32(rt, 0x00000001)?;
-    parts_32(rt, 0xff7fffff)?;
-    parts_32(rt, 0x7f800000)?;
-    parts_32(rt, 0x7fc00001)?;
-    parts_16(rt, 0x4100)?;
-    parts_16(rt, 0x0001)?;
-    parts_16(rt, 0xfbff)?;
-    parts_16(rt, 0x7c00)?;
-    parts_16(rt, 0x7e01)
+    all_parts(
+        rt,
+        &[
+            0x4004000000000000u64,
+            0xbfe0000000000000,
+            0x0000000000000001,
+            0x7fefffffffffffff,
+            0xfff0000000000000,
+            0x7ff8000000000000,
+        ],
+    )?;
+    all_parts(
+        rt,
+        &[
+            0x40200000u32,
+            0x00000001,
+            0xff7fffff,
+            0x7f800000,
+            0x7fc00001,
+        ],
+    )?;
+    all_parts(rt, &[0x4100u16, 0x0001, 0xfbff, 0x7c00, 0x7e01])
+}
+
+// The sign of a float, and a finite number's significand and exponent, or what else it is.
+fn put_float(rt: &impl Print, x: Float) -> io::Result<()> {
+    let sign = sign(x.negative);
+    let class = x.class;
+    match class {
+        Class::Finite(magnitude) => println!(rt;
+            " {sign} {:014x} {:03x}",
+            magnitude.significand, magnitude.exponent
+        ),
+        Class::Infinite => println!(rt; " {sign} infinite"),
+        Class::NotANumber { fraction } => println!(rt; " {sign} nan {fraction:013x}"),
+    }
+}
+
+fn all_read<B: ReadFloat>(rt: &impl Print, samples: &[B]) -> io::Result<()> {
+    for b in samples {
+        print!(rt; "read_f{}", width::<B>())?;
+        put_pattern(rt, *b)?;
+        put_float(rt, b.read())?;
+    }
+    Ok(())
+}
+
+// The ends of the three ranges of an exponent field.
+fn float_readers(rt: &impl Print) -> io::Result<()> {
+    all_read(
+        rt,
+        &[
+            0x000fffffffffffffu64,
+            0x8010000000000000,
+            0x7fefffffffffffff,
+            0xfff0000000000000,
+            0x7ff0000000000001,
+        ],
+    )?;
+    all_read(
+        rt,
+        &[
+            0x007fffffu32,
+            0x80800000,
+            0x7f7fffff,
+            0xff800000,
+            0x7f800001,
+        ],
+    )?;
+    all_read(rt, &[0x03ffu16, 0x8400, 0x7bff, 0xfc00, 0x7c01])
+}
+
+fn all_neighbours<B: FloatBits>(rt: &impl Print, samples: &[B]) -> io::Result<()> {
+    let width = width::<B>();
+    for b in samples {
+        print!(rt; "next_down_f{width}, next_up_f{width}")?;
+        put_pattern(rt, *b)?;
+        put_pattern(rt, neighbours::next_down(*b))?;
+        put_pattern(rt, neighbours::next_up(*b))?;
+        println!(rt; "")?;
+    }
+    Ok(())
 }
 
 fn float_neighbours(rt: &impl Print) -> io::Result<()> {
-    // f32: the zeros, -2^-149, the largest numbers of both signs, the infinities, a NaN
-    neighbours_32(rt, 0x00000000)?;
-    neighbours_32(rt, 0x80000000)?;
-    neighbours_32(rt, 0x80000001)?;
-    neighbours_32(rt, 0x7f7fffff)?;
-    neighbours_32(rt, 0xff7fffff)?;
-    neighbours_32(rt, 0x7f800000)?;
-    neighbours_32(rt, 0xff800000)?;
-    neighbours_32(rt, 0x7fc00001)?;
-    // f64: -2^-1074, the largest number, -infinity, 1
-    neighbours_64(rt, 0x8000000000000001)?;
-    neighbours_64(rt, 0x7fefffffffffffff)?;
-    neighbours_64(rt, 0xfff0000000000000)?;
-    neighbours_64(rt, 0x3ff0000000000000)?;
-    // f16: the zeros, -2^-24, the largest numbers of both signs, the infinities, a NaN
-    neighbours_16(rt, 0x0000)?;
-    neighbours_16(rt, 0x8000)?;
-    neighbours_16(rt, 0x8001)?;
-    neighbours_16(rt, 0x7bff)?;
-    neighbours_16(rt, 0xfbff)?;
-    neighbours_16(rt, 0x7c00)?;
-    neighbours_16(rt, 0xfc00)?;
-    neighbours_16(rt, 0x7e01)
+    // the zeros, -2^-149, the largest numbers of both signs, the infinities, a NaN
+    all_neighbours(
+        rt,
+        &[
+            0x00000000u32,
+            0x80000000,
+            0x80000001,
+            0x7f7fffff,
+            0xff7fffff,
+            0x7f800000,
+            0xff800000,
+            0x7fc00001,
+        ],
+    )?;
+    // -2^-1074, the largest number, -infinity, 1
+    all_neighbours(
+        rt,
+        &[
+            0x8000000000000001u64,
+            0x7fefffffffffffff,
+            0xfff0000000000000,
+            0x3ff0000000000000,
+        ],
+    )?;
+    // the zeros, -2^-24, the largest numbers of both signs, the infinities, a NaN
+    all_neighbours(
+        rt,
+        &[
+            0x0000u16, 0x8000, 0x8001, 0x7bff, 0xfbff, 0x7c00, 0xfc00, 0x7e01,
+        ],
+    )
+}
+
+fn put_widened<B: ReadFloat>(rt: &impl Print, b: B) -> io::Result<()> {
+    let width = width::<B>();
+    let digits = width / 4;
+    let bits = b.to_u64();
+    let widened = floats::write_f64(b.read());
+    println!(rt; "read_f{width}, write_f64 {bits:0digits$x} {widened:016x}")
+}
+
+fn all_widened<B: ReadFloat>(rt: &impl Print, samples: &[B]) -> io::Result<()> {
+    for b in samples {
+        put_widened(rt, *b)?;
+    }
+    Ok(())
 }
 
 fn float_widths(rt: &impl Print) -> io::Result<()> {
     // a zero, the smallest subnormal, 2.5, the largest number, an infinity, a signalling NaN
-    widened(rt, 0x80000000)?;
-    widened(rt, 0x00000001)?;
-    widened(rt, 0x40200000)?;
-    widened(rt, 0x7f7fffff)?;
-    widened(rt, 0xff800000)?;
-    widened(rt, 0x7f800001)?;
-    widened_16(rt, 0x8000)?;
-    widened_16(rt, 0x0001)?;
-    widened_16(rt, 0x4100)?;
-    widened_16(rt, 0x7bff)?;
-    widened_16(rt, 0xfc00)?;
-    widened_16(rt, 0x7c01)
+    all_widened(
+        rt,
+        &[
+            0x80000000u32,
+            0x00000001,
+            0x40200000,
+            0x7f7fffff,
+            0xff800000,
+            0x7f800001,
+        ],
+    )?;
+    all_widened(rt, &[0x8000u16, 0x0001, 0x4100, 0x7bff, 0xfc00, 0x7c01])
 }
 
 // ---- rounding to a whole number
 
-// Where a pick lies: at the element, below it or above it.
-fn put_ternary(rt: &impl Print, t: Ternary) -> io::Result<()> {
-    match t {
-        Ternary::Exact => text(rt, b" =")?,
-        Ternary::Below => text(rt, b" <")?,
-        Ternary::Above => text(rt, b" >")?,
+// The bits of a pick, of so many digits, and where it lies.
+fn put_rounded(rt: &impl Print, r: Rounded, digits: usize) -> io::Result<()> {
+    print!(rt; " {:0digits$x} {}", r.bits, side(r.ternary))
+}
+
+fn put_whole<B: ReadFloat>(rt: &impl Print, b: B) -> io::Result<()> {
+    let width = width::<B>();
+    print!(rt; "round_with_mode_f{width}")?;
+    put_pattern(rt, b)?;
+    for mode in MODES {
+        put_rounded(rt, integral::round_with_mode(b, mode), width / 4)?;
+    }
+    println!(rt; "")
+}
+
+fn all_whole<B: ReadFloat>(rt: &impl Print, samples: &[B]) -> io::Result<()> {
+    for b in samples {
+        put_whole(rt, *b)?;
     }
     Ok(())
-}
-
-// The bits of a pick, and where it lies.
-fn put_rounded(rt: &impl Print, r: Rounded, width: usize) -> io::Result<()> {
-    number(rt, r.bits, width)?;
-    let ternary = r.ternary;
-    put_ternary(rt, ternary)
-}
-
-fn round_64(rt: &impl Print, b: u64, mode: RoundingMode) -> io::Result<()> {
-    put_rounded(rt, integral::round_with_mode_f64(b, mode), 16)
-}
-
-fn rounded_64(rt: &impl Print, b: u64) -> io::Result<()> {
-    text(rt, b"round_with_mode_f64")?;
-    number(rt, b, 16)?;
-    round_64(rt, b, RoundingMode::NearestEven)?;
-    round_64(rt, b, RoundingMode::TowardsZero)?;
-    round_64(rt, b, RoundingMode::TowardsPositive)?;
-    round_64(rt, b, RoundingMode::TowardsNegative)?;
-    round_64(rt, b, RoundingMode::NearestAway)?;
-    end(rt)
-}
-
-fn round_32(rt: &impl Print, b: u32, mode: RoundingMode) -> io::Result<()> {
-    put_rounded(rt, integral::round_with_mode_f32(b, mode), 8)
-}
-
-fn rounded_32(rt: &impl Print, b: u32) -> io::Result<()> {
-    text(rt, b"round_with_mode_f32")?;
-    number(rt, wide(b), 8)?;
-    round_32(rt, b, RoundingMode::NearestEven)?;
-    round_32(rt, b, RoundingMode::TowardsZero)?;
-    round_32(rt, b, RoundingMode::TowardsPositive)?;
-    round_32(rt, b, RoundingMode::TowardsNegative)?;
-    round_32(rt, b, RoundingMode::NearestAway)?;
-    end(rt)
-}
-
-fn round_16(rt: &impl Print, b: u16, mode: RoundingMode) -> io::Result<()> {
-    put_rounded(rt, integral::round_with_mode_f16(b, mode), 4)
-}
-
-fn rounded_16(rt: &impl Print, b: u16) -> io::Result<()> {
-    text(rt, b"round_with_mode_f16")?;
-    number(rt, wide_16(b), 4)?;
-    round_16(rt, b, RoundingMode::NearestEven)?;
-    round_16(rt, b, RoundingMode::TowardsZero)?;
-    round_16(rt, b, RoundingMode::TowardsPositive)?;
-    round_16(rt, b, RoundingMode::TowardsNegative)?;
-    round_16(rt, b, RoundingMode::NearestAway)?;
-    end(rt)
 }
 
 fn whole_numbers(rt: &impl Print) -> io::Result<()> {
     // 2.5, -0.5, 0.49999999999999994, -2^-1074, 2^52 - 0.5, 2^52 + 1, the largest number
-    rounded_64(rt, 0x4004000000000000)?;
-    rounded_64(rt, 0xbfe0000000000000)?;
-    rounded_64(rt, 0x3fdfffffffffffff)?;
-    rounded_64(rt, 0x8000000000000001)?;
-    rounded_64(rt, 0x432fffffffffffff)?;
-    rounded_64(rt, 0x4330000000000001)?;
-    rounded_64(rt, 0x7fefffffffffffff)?;
+    all_whole(
+        rt,
+        &[
+            0x4004000000000000u64,
+            0xbfe0000000000000,
+            0x3fdfffffffffffff,
+            0x8000000000000001,
+            0x432fffffffffffff,
+            0x4330000000000001,
+            0x7fefffffffffffff,
+        ],
+    )?;
     // 2.5, 0.49999997, 2^23 - 0.5, 2^23 + 1
-    rounded_32(rt, 0x40200000)?;
-    rounded_32(rt, 0x3effffff)?;
-    rounded_32(rt, 0x4affffff)?;
-    rounded_32(rt, 0x4b000001)?;
+    all_whole(rt, &[0x40200000u32, 0x3effffff, 0x4affffff, 0x4b000001])?;
     // 2.5, 0.49976, 2^10 - 0.5, 2^11 - 1, the largest number
-    rounded_16(rt, 0x4100)?;
-    rounded_16(rt, 0x37ff)?;
-    rounded_16(rt, 0x63ff)?;
-    rounded_16(rt, 0x67ff)?;
-    rounded_16(rt, 0x7bff)
+    all_whole(rt, &[0x4100u16, 0x37ff, 0x63ff, 0x67ff, 0x7bff])
 }
 
 // ---- one rounding to f32 and to f16
 
-// How an element fared, by the first letter.
-fn put_fared(rt: &impl Print, f: Fared) -> io::Result<()> {
-    match f {
-        Fared::Mapped => text(rt, b" m")?,
-        Fared::Exact => text(rt, b" e")?,
-        Fared::Rounded => text(rt, b" r")?,
-        Fared::Clamped => text(rt, b" c")?,
-        Fared::Wrapped => text(rt, b" w")?,
-    }
-    Ok(())
-}
-
 fn put_fit(rt: &impl Print, f: Fit) -> io::Result<()> {
     match f {
-        Ok(Stored { pattern, fared }) => {
-            number(rt, pattern, 8)?;
-            put_fared(rt, fared)?;
-        }
-        Err(ConversionError::NotFinite) => text(rt, b" not-finite")?,
-        Err(ConversionError::OutOfRange) => text(rt, b" out-of-range")?,
+        Ok(Stored { pattern, fared }) => print!(rt; " {pattern:08x} {}", initial(fared)),
+        Err(ConversionError::NotFinite) => print!(rt; " not-finite"),
+        Err(ConversionError::OutOfRange) => print!(rt; " out-of-range"),
     }
-    Ok(())
 }
 
 fn narrow(rt: &impl Print, b: u64, to: FloatFormat, mode: RoundingMode) -> io::Result<()>
     requires { FloatRow to }
 {
-    let x = floats::read_f64(b);
+    let x = b.read();
     put_fit(
         rt,
         float_conversions::convert_float_to_float(x, to, mode, OutOfRangeMode::None),
@@ -389,39 +336,23 @@ fn narrow(rt: &impl Print, b: u64, to: FloatFormat, mode: RoundingMode) -> io::R
 fn narrowed(rt: &impl Print, b: u64, to: FloatFormat) -> io::Result<()>
     requires { FloatRow to }
 {
-    number(rt, b, 16)?;
-    narrow(rt, b, to, RoundingMode::NearestEven)?;
-    narrow(rt, b, to, RoundingMode::TowardsZero)?;
-    narrow(rt, b, to, RoundingMode::TowardsPositive)?;
-    narrow(rt, b, to, RoundingMode::TowardsNegative)?;
-    narrow(rt, b, to, RoundingMode::NearestAway)?;
-    end(rt)
+    print!(rt;
+        "read_f64, narrow to f{} {b:016x}",
+        to.exponent_bits + to.precision
+    )?;
+    for mode in MODES {
+        narrow(rt, b, to, mode)?;
+    }
+    println!(rt; "")
 }
 
-fn narrowed_32(rt: &impl Print, b: u64) -> io::Result<()> {
-    text(rt, b"read_f64, narrow to f32")?;
-    narrowed(rt, b, kinds::F32)
-}
-
-fn narrowed_16(rt: &impl Print, b: u64) -> io::Result<()> {
-    text(rt, b"read_f64, narrow to f16")?;
-    narrowed(rt, b, kinds::F16)
-}
-
-fn integer(
-    rt: &impl Print,
-    magnitude: u64,
-    negative: bool,
-    precision: u32,
-    mode: RoundingMode,
-) -> io::Result<()>
-    requires { Precision precision }
+fn all_narrowed(rt: &impl Print, samples: &[u64], to: FloatFormat) -> io::Result<()>
+    requires { FloatRow to }
 {
-    put_rounded(
-        rt,
-        integer_to_f64::int_to_f64_magnitude(magnitude, negative, precision, mode),
-        16,
-    )
+    for b in samples {
+        narrowed(rt, *b, to)?;
+    }
+    Ok(())
 }
 
 fn rounded_integer(
@@ -432,64 +363,49 @@ fn rounded_integer(
 ) -> io::Result<()>
     requires { Precision precision }
 {
-    text(rt, b"int_to_f64_magnitude")?;
-    sign(rt, negative)?;
-    number(rt, magnitude, 16)?;
-    integer(
-        rt,
-        magnitude,
-        negative,
-        precision,
-        RoundingMode::NearestEven,
-    )?;
-    integer(
-        rt,
-        magnitude,
-        negative,
-        precision,
-        RoundingMode::TowardsZero,
-    )?;
-    integer(
-        rt,
-        magnitude,
-        negative,
-        precision,
-        RoundingMode::TowardsPositive,
-    )?;
-    integer(
-        rt,
-        magnitude,
-        negative,
-        precision,
-        RoundingMode::TowardsNegative,
-    )?;
-    integer(
-        rt,
-        magnitude,
-        negative,
-        precision,
-        RoundingMode::NearestAway,
-    )?;
-    end(rt)
+    print!(rt; "int_to_f64_magnitude {} {magnitude:016x}", sign(negative))?;
+    for mode in MODES {
+        put_rounded(
+            rt,
+            integer_to_f64::int_to_f64_magnitude(magnitude, negative, precision, mode),
+            16,
+        )?;
+    }
+    println!(rt; "")
 }
 
 fn rounded_once(rt: &impl Print) -> io::Result<()> {
     // 2^128 - 2^103, -2^128, 2^-150, -2^-200, two NaNs
-    narrowed_32(rt, 0x47effffff0000000)?;
-    narrowed_32(rt, 0xc7f0000000000000)?;
-    narrowed_32(rt, 0x3690000000000000)?;
-    narrowed_32(rt, 0xb370000000000000)?;
-    narrowed_32(rt, 0x7ff0000000000001)?;
-    narrowed_32(rt, 0xfff8000020000000)?;
+    all_narrowed(
+        rt,
+        &[
+            0x47effffff0000000,
+            0xc7f0000000000000,
+            0x3690000000000000,
+            0xb370000000000000,
+            0x7ff0000000000001,
+            0xfff8000020000000,
+        ],
+        kinds::F32,
+    )?;
     // to f16: 65520 - 2^-20, 65520, 65536, 1 + 2^-11 + 2^-40, 2^-25, halfway above the largest subnormal, a NaN
-    narrowed_16(rt, 0x40effdfffffe0000)?;
-    narrowed_16(rt, 0x40effe0000000000)?;
-    narrowed_16(rt, 0xc0f0000000000000)?;
-    narrowed_16(rt, 0x3ff0020000001000)?;
-    narrowed_16(rt, 0x3e60000000000000)?;
-    narrowed_16(rt, 0x3f0ffc0000000000)?;
-    narrowed_16(rt, 0xfff0040000000001)?;
-    // 0, 16777217, its negative and 2^64 - 1 to 24 bits; 2^64 - 1 and -2^63 to 53; 65519 and 65520 to 11
+    all_narrowed(
+        rt,
+        &[
+            0x40effdfffffe0000,
+            0x40effe0000000000,
+            0xc0f0000000000000,
+            0x3ff0020000001000,
+            0x3e60000000000000,
+            0x3f0ffc0000000000,
+            0xfff0040000000001,
+        ],
+        kinds::F16,
+    )
+}
+
+// 0, 16777217, its negative and 2^64 - 1 to 24 bits; 2^64 - 1 and -2^63 to 53; 65519 and 65520 to 11
+fn rounded_integers(rt: &impl Print) -> io::Result<()> {
     rounded_integer(rt, 0x0000000000000000, false, 24)?;
     rounded_integer(rt, 0x0000000001000001, false, 24)?;
     rounded_integer(rt, 0x0000000001000001, true, 24)?;
@@ -506,11 +422,11 @@ fn magnitude(rt: &impl Print, b: u64, signed: bool, bits: u32) -> io::Result<()>
     requires { IntegerPattern b bits }
 {
     let m = integers::int_magnitude(b, signed, bits);
-    text(rt, b"int_magnitude")?;
-    number(rt, b, 16)?;
-    sign(rt, m.negative)?;
-    number(rt, m.magnitude, 16)?;
-    end(rt)
+    println!(rt;
+        "int_magnitude {b:016x} {} {:016x}",
+        sign(m.negative),
+        m.magnitude
+    )
 }
 
 fn integer_ends(rt: &impl Print) -> io::Result<()> {
@@ -537,36 +453,39 @@ fn integer_ends(rt: &impl Print) -> io::Result<()> {
 // ---- wrap
 
 fn wrapped(rt: &impl Print, b: u64) -> io::Result<()> {
-    text(rt, b"wrap_integral_f64")?;
-    number(rt, b, 16)?;
-    number(rt, whole_part::wrap_integral_f64(b, 8), 2)?;
-    number(rt, whole_part::wrap_integral_f64(b, 16), 4)?;
-    number(rt, whole_part::wrap_integral_f64(b, 32), 8)?;
-    number(rt, whole_part::wrap_integral_f64(b, 64), 16)?;
-    end(rt)
+    print!(rt; "wrap_integral_f64 {b:016x}")?;
+    for bits in [8u32, 16, 32, 64] {
+        let digits = bits as usize / 4;
+        print!(rt; " {:0digits$x}", whole_part::wrap_integral_f64(b, bits))?;
+    }
+    println!(rt; "")
 }
 
 fn residues(rt: &impl Print) -> io::Result<()> {
     // 300, -1, -128, 2^63, -2^63, 2^64, 2^64 - 2^11, -(2^53 - 1), the largest number
-    wrapped(rt, 0x4072c00000000000)?;
-    wrapped(rt, 0xbff0000000000000)?;
-    wrapped(rt, 0xc060000000000000)?;
-    wrapped(rt, 0x43e0000000000000)?;
-    wrapped(rt, 0xc3e0000000000000)?;
-    wrapped(rt, 0x43f0000000000000)?;
-    wrapped(rt, 0x43efffffffffffff)?;
-    wrapped(rt, 0xc33fffffffffffff)?;
-    wrapped(rt, 0x7fefffffffffffff)
+    for b in [
+        0x4072c00000000000,
+        0xbff0000000000000,
+        0xc060000000000000,
+        0x43e0000000000000,
+        0xc3e0000000000000,
+        0x43f0000000000000,
+        0x43efffffffffffff,
+        0xc33fffffffffffff,
+        0x7fefffffffffffff,
+    ] {
+        wrapped(rt, b)?;
+    }
+    Ok(())
 }
 
 // ---- map
 
 fn looked_up(rt: &impl Print, l: Option<u64>) -> io::Result<()> {
     match l {
-        Some(target) => number(rt, target, 2)?,
-        None => text(rt, b" none")?,
+        Some(target) => println!(rt; " {target:02x}"),
+        None => println!(rt; " none"),
     }
-    end(rt)
 }
 
 // NaN to 9, 0 to 7, 0 to 8
@@ -574,20 +493,11 @@ fn float_map(rt: &impl Print, b: u64) -> io::Result<()> {
     let mut keys = [0u8; 24];
     put(&mut keys, 0, 0x7ff8000000000000);
     let targets = [9, 7, 8];
-    text(rt, b"apply_scalar_map_float")?;
-    number(rt, b, 16)?;
+    print!(rt; "apply_scalar_map_float {b:016x}")?;
     looked_up(
         rt,
         mapping::apply_scalar_map_float(b, &keys, &targets, 3, kinds::F64, 8, 1),
     )
-}
-
-// The eight bytes of x, at a place of d.
-fn put(d: &mut [u8], at: usize, x: u64)
-    requires { at + 8 ≤ length d.old }
-    ensures { length d.new ≡ length d.old }
-{
-    store_le::write_le(d, at, 8, x);
 }
 
 // 255 to 1, 0 to 2, 255 to 3
@@ -596,8 +506,7 @@ fn integer_map(rt: &impl Print, b: u64) -> io::Result<()>
 {
     let keys = [255, 0, 255];
     let targets = [1, 2, 3];
-    text(rt, b"apply_scalar_map_int")?;
-    number(rt, b, 2)?;
+    print!(rt; "apply_scalar_map_int {b:02x}")?;
     looked_up(
         rt,
         mapping::apply_scalar_map_int(b, &keys, &targets, 3, 1, 1),
@@ -625,6 +534,7 @@ fn main(rt: HostRuntime) -> io::Result<()> {
     float_widths(&rt)?;
     whole_numbers(&rt)?;
     rounded_once(&rt)?;
+    rounded_integers(&rt)?;
     integer_ends(&rt)?;
     residues(&rt)?;
     maps(&rt)

@@ -6,6 +6,7 @@ use native.Mathlib.Nat.{mod-eq_of_lt, mod-eq-sub-mod}
 use native.Mathlib.Omega.{arith}
 use lib.Bits.{bit_and, and_mask}
 use lib.IntN.{pos, neg_ℤ, nat_abs}
+use lib.Pow.{pow_mono, pow_pos, shl_exact}
 use borrow.Author.Tests.{le-leb, lt-leb, lt-ltb, le-ltb, eq-eqb, ne_eqb}
 use Rattle.grid.specs.Round.{signed}
 use Rattle.grid.proofs.Int.{up, dn, ints, up_neg, dn_neg}
@@ -17,7 +18,7 @@ use Rattle.patterns.specs.Pattern.{with_sign}
 use Rattle.patterns.proofs.Encode.{bits_mono}
 use Rattle.patterns.proofs.Floats.{abs_signed, is_num, is_inf, is_nan}
 use Rattle.patterns.proofs.Floats as floats
-use Rattle.neighbours.specs.Next.{LeastAbove, NextUp, up_by, up_from, next_up}
+use Rattle.neighbours.specs.Next.{LeastAbove, NextUp, SignBit, up_by, up_from, next_up}
 use Rattle.neighbours.proofs.Ranks.{no_bits, below_ranks, ranks_below}
 
 -- ---- the cases of `up_by`
@@ -38,6 +39,23 @@ module _ (i h b x : ℕ) where
 
       pub up_positive : (x ≡ 0 → ⊥) → b < h → up_by i h b x ≡ b + 1
       up_positive n l = simp (le-ltb i x small, ne_eqb b i other, ne_eqb x 0 n, lt-leb h b l)
+
+-- the sign's bit and the infinity, by shifts
+module _ (p w : ℕ) (two : 2 ≤ p) (within : w + p ≤ 64) where
+  pub infinity_made : (1 * 2 ^ w % 2 ^ 64 - 1) * 2 ^ (p - 1) % 2 ^ 64 ≡ inf_bits p w
+  infinity_made =
+      ap (λ (z : ℕ). (z - 1) * 2 ^ (p - 1) % 2 ^ 64) (mod-eq_of_lt (omega (arith, pow_mono {i = w} {j = 63} (omega arith))) ∙ one (2 ^ w))
+      ∙ shl_exact w (p - 1) 64 (omega (arith, pow_pos w)) (omega arith)
+    where
+      one : (z : ℕ) → 1 * z ≡ z
+      one z = omega arith
+
+  pub sign_fits : (b h : ℕ) → b < 2 ^ (w + p) → h ≡ 2 ^ (w + p - 1) → SignBit b h
+  sign_fits b h fits e = record {
+    positive = omega (arith, e, pow_pos (w + p - 1));
+    within_64_bits = omega (arith, e, pow_mono {i = w + p - 1} {j = 63} (omega arith));
+    fits = omega (arith, e, fits, pow_twice_pred (w + p) (omega arith));
+  }
 
 -- the bits below the sign by a mask
 pub masked : (p w b : ℕ) → up_from p w b (bit_and b (2 ^ (w + p - 1) - 1)) ≡ next_up p w b

@@ -8,6 +8,7 @@ ghost use Rattle.tallies.specs.Tally.{Countable};
 ghost use Rattle.typed_steps.specs.Loop.{outcome_for, next_state, stored_in, TalliedBy};
 
 use answers::{Fit, Lookup};
+use floats::ReadFloat;
 use kinds::Format;
 use tallies::Tally;
 use typed_states::State;
@@ -22,7 +23,7 @@ pub fn step_f64_f32(src: &[f64], dst: &mut [f32], s: State, f: Lookup, tally: &m
     let at = s.at;
     let rounding = s.rounding;
     let range = s.range;
-    let x = floats::read_f64(s.x);
+    let x = s.x.read();
     let fit = steps::step_float_to_float(x, f, kinds::F32, rounding, range);
     if let Fit::Pattern { pattern, fared } = fit {
         tallies::count(tally, fared);

@@ -8,6 +8,7 @@ ghost use Rattle.tallies.specs.Tally.{Countable};
 ghost use Rattle.typed_steps.specs.Loop.{outcome_for, next_state, stored_in, TalliedBy};
 
 use answers::{Fit, Lookup};
+use floats::ReadFloat;
 use kinds::Format;
 use tallies::Tally;
 use typed_states::State;
@@ -22,7 +23,7 @@ pub fn step_f64_u8(src: &[f64], dst: &mut [u8], s: State, f: Lookup, tally: &mut
     let at = s.at;
     let rounding = s.rounding;
     let range = s.range;
-    let x = floats::read_f64(s.x);
+    let x = s.x.read();
     let fit = steps::step_float_to_int(x, f, kinds::U8, rounding, range);
     if let Fit::Pattern { pattern, fared } = fit {
         tallies::count(tally, fared);
@@ -48,7 +49,7 @@ pub fn step_f64_i32(src: &[f64], dst: &mut [i32], s: State, f: Lookup, tally: &m
     let at = s.at;
     let rounding = s.rounding;
     let range = s.range;
-    let x = floats::read_f64(s.x);
+    let x = s.x.read();
     let fit = steps::step_float_to_int(x, f, kinds::I32, rounding, range);
     if let Fit::Pattern { pattern, fared } = fit {
         tallies::count(tally, fared);
@@ -74,7 +75,7 @@ pub fn step_f32_u8(src: &[f32], dst: &mut [u8], s: State, f: Lookup, tally: &mut
     let at = s.at;
     let rounding = s.rounding;
     let range = s.range;
-    let x = floats::read_f32(s.x as u32);
+    let x = (s.x as u32).read();
     let fit = steps::step_float_to_int(x, f, kinds::U8, rounding, range);
     if let Fit::Pattern { pattern, fared } = fit {
         tallies::count(tally, fared);

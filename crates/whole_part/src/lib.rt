@@ -4,7 +4,7 @@
 ghost use Rattle.std.specs.Prelude.{◌≡◌, ◌<◌, ◌≤◌};
 ghost use Rattle.whole_part.specs.WholePart.{wrapped_of};
 
-use floats::Class;
+use floats::{Class, ReadFloat};
 use grid::RoundingMode;
 
 // The lowest bits of an f64's whole part, two's complement; 0 for an infinity and a NaN, which have none.
@@ -12,7 +12,7 @@ pub fn wrap_integral_f64(b: u64, bits: u32) -> u64
     requires { (0 < bits) × (bits ≤ 64) }
     ensures { result ≡ wrapped_of bits b }
 {
-    let x = floats::read_f64(b);
+    let x = b.read();
     let negative = x.negative;
     let class = x.class;
     let Class::Finite(magnitude) = class else {

@@ -6,4 +6,4 @@ use Rattle.floats.proofs.Values.{f64_formed}
 use Rattle.leaves.proofs.narrow.Goals as goal
 
 pub convert_float_to_float-requires : goal.convert_float_to_float-requires
-convert_float_to_float-requires g c = (subst (λ (x : Float). CanonicalClass x.class) (sym c.read_f64-x.ensures) (f64_formed c.args.b c.ranges.b.fits).canonical, c.requires)
+convert_float_to_float-requires g c = (subst (λ (x : Float). CanonicalClass x.class) (sym c.read-x.ensures) (f64_formed c.args.b c.ranges.b.fits).canonical, c.requires)

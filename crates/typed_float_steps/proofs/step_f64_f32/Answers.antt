@@ -11,12 +11,12 @@ use Rattle.typed_steps.proofs.Steps.{no_pattern, stored, refused}
 use Rattle.typed_float_steps.proofs.step_f64_f32.Goals as goal
 
 pub step_float_to_float-fit-requires : goal.step_float_to_float-fit-requires
-step_float_to_float-fit-requires c = let a = c.args in (read_canonical f64 a.s.x (f64_formed a.s.x c.requires.0) c.read_f64-x.result c.read_f64-x.ensures, f32_row)
+step_float_to_float-fit-requires c = let a = c.args in (read_canonical f64 a.s.x (f64_formed a.s.x c.requires.0) c.read-x.result c.read-x.ensures, f32_row)
 
 pub returns-in-Pattern : goal.returns-in-Pattern
 returns-in-Pattern c =
     let a = c.args in
-    let x = c.read_f64-x in
+    let x = c.read-x in
     let t = c.step_float_to_float-fit in
     let p = c.in-Pattern in
     stored f32_of (map f64_bits a.src.now) a.dst.now a.tally.now 9 8 a.s a.f t.result
@@ -29,7 +29,7 @@ outcome-o-requires c = (f64_pattern _ c.requires.0, f32_row)
 pub returns : goal.returns
 returns c =
     let a = c.args in
-    let x = c.read_f64-x in
+    let x = c.read-x in
     let t = c.step_float_to_float-fit in
     refused f32_of (map f64_bits a.src.now) a.dst.now a.tally.now 9 8 a.s a.f t.result
     (t.ensures ∙ f64_to_float_steps 24 8 925 a.s.x c.requires.0 x.result x.ensures a.f a.s.rounding a.s.range)

@@ -10,12 +10,12 @@ use Rattle.whole_part.proofs.WholeParts.{wrapped_bits}
 use Rattle.whole_part.proofs.wrap_integral_f64.Goals as goal
 
 pub round_to_whole-whole-requires : goal.round_to_whole-whole-requires
-round_to_whole-whole-requires c = subst CanonicalClass (sym (ap (λ (f : Float). f.class) c.read_f64-x.ensures) ∙ c.in-Finite.is) (f64_formed c.args.b c.ranges.b.fits).canonical
+round_to_whole-whole-requires c = subst CanonicalClass (sym (ap (λ (f : Float). f.class) c.read-x.ensures) ∙ c.in-Finite.is) (f64_formed c.args.b c.ranges.b.fits).canonical
 
 pub returns : goal.returns
 returns c =
     let a = c.args in
-    let x = c.read_f64-x in
+    let x = c.read-x in
     c.wrap_magnitude.ensures
     ∙ ap (λ (w : Whole). low_bits a.bits (signed x.result.negative w.magnitude)) c.round_to_whole-whole.ensures
     ∙ wrapped_bits a.bits a.b x.result x.ensures c.in-Finite.magnitude c.in-Finite.is c.requires.1
