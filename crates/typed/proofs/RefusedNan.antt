@@ -124,17 +124,17 @@ float_settled : (f : Format) (x : Float) → value_of (kind_for f) (float_bits f
 float_settled f x h = ap (nan_pattern (kind_for f) 53 11) (quiet f x h) ∙ quiet_value f
 
 -- ---- the five
-pub f64_to_u8 : RefusalsSettled (pairs.f64_to_u8).elements
-f64_to_u8 = refused_nan_lem (pairs.f64_to_u8).elements (float_settled binary64)
+pub f64_to_u8 : RefusalsSettled pairs.f64_to_u8
+f64_to_u8 = refused_nan_lem pairs.f64_to_u8 (float_settled binary64)
 
-pub f64_to_i32 : RefusalsSettled (pairs.f64_to_i32).elements
-f64_to_i32 = refused_nan_lem (pairs.f64_to_i32).elements (float_settled binary64)
+pub f64_to_i32 : RefusalsSettled pairs.f64_to_i32
+f64_to_i32 = refused_nan_lem pairs.f64_to_i32 (float_settled binary64)
 
-pub f32_to_u8 : RefusalsSettled (pairs.f32_to_u8).elements
-f32_to_u8 = refused_nan_lem (pairs.f32_to_u8).elements (float_settled binary32)
+pub f32_to_u8 : RefusalsSettled pairs.f32_to_u8
+f32_to_u8 = refused_nan_lem pairs.f32_to_u8 (float_settled binary32)
 
-pub f64_to_f32 : RefusalsSettled (pairs.f64_to_f32).elements
-f64_to_f32 = refused_nan_lem (pairs.f64_to_f32).elements (float_settled binary64)
+pub f64_to_f32 : RefusalsSettled pairs.f64_to_f32
+f64_to_f32 = refused_nan_lem pairs.f64_to_f32 (float_settled binary64)
 
-pub i64_to_f32 : RefusalsSettled (pairs.i64_to_f32).elements
-i64_to_f32 = refused_nan_lem (pairs.i64_to_f32).elements (λ x h. absurd (no_integer_nan true 64 (i64_bits x) h))
+pub i64_to_f32 : RefusalsSettled pairs.i64_to_f32
+i64_to_f32 = refused_nan_lem pairs.i64_to_f32 (λ x h. absurd (no_integer_nan true 64 (i64_bits x) h))
