@@ -29,7 +29,7 @@ fn values(a: Answer) -> Values
             value,
             lo,
             hi,
-        }) => [0, 0, position as u64, value, typed_values::bits_i64(lo), hi],
+        }) => [0, 0, position as u64, value, lo.cast_unsigned(), hi],
         Err(Refusal::FloatOutOfRange {
             position,
             value,

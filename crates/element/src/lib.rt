@@ -97,9 +97,8 @@ pub fn outcome(b: u64, fit: Fit, source: Format, target: Format) -> Outcome
     requires { FormatPattern b source × FormatRow target }
     ensures { result ≡ filled (kind_in target) (as_f64 (kind_in source) b) fit }
 {
-    let value = as_f64(read(b, source));
     match fit {
         Ok(stored) => Ok(stored),
-        Err(error) => Err(refusal(error, value, target)),
+        Err(error) => Err(refusal(error, as_f64(read(b, source)), target)),
     }
 }

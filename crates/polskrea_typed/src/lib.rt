@@ -21,7 +21,7 @@ pub extern "C" fn polskrea_convert_f64_to_u8(
 ) -> u8
     ensures { Exported 9 4 (map f64_bits src.now) (map u8_bits dst.old) (map f64_u8 entries.now) rounding range result answer.new (map u8_bits dst.new) }
 {
-    let r = typed::convert_f64_to_u8(src, dst, entries, rounding, range);
+    let r = typed::convert(src, dst, entries, rounding, range);
     answer_fields::answered(r, answer)
 }
 
@@ -37,7 +37,7 @@ pub extern "C" fn polskrea_convert_f64_to_i32(
 ) -> u8
     ensures { Exported 9 2 (map f64_bits src.now) (map i32_bits dst.old) (map f64_i32 entries.now) rounding range result answer.new (map i32_bits dst.new) }
 {
-    let r = typed::convert_f64_to_i32(src, dst, entries, rounding, range);
+    let r = typed::convert(src, dst, entries, rounding, range);
     answer_fields::answered(r, answer)
 }
 
@@ -53,7 +53,7 @@ pub extern "C" fn polskrea_convert_f32_to_u8(
 ) -> u8
     ensures { Exported 8 4 (map f32_bits src.now) (map u8_bits dst.old) (map f32_u8 entries.now) rounding range result answer.new (map u8_bits dst.new) }
 {
-    let r = typed::convert_f32_to_u8(src, dst, entries, rounding, range);
+    let r = typed::convert(src, dst, entries, rounding, range);
     answer_fields::answered(r, answer)
 }
 
@@ -69,7 +69,7 @@ pub extern "C" fn polskrea_convert_f64_to_f32(
 ) -> u8
     ensures { Exported 9 8 (map f64_bits src.now) (map f32_bits dst.old) (map f64_f32 entries.now) rounding range result answer.new (map f32_bits dst.new) }
 {
-    let r = typed::convert_f64_to_f32(src, dst, entries, rounding, range);
+    let r = typed::convert(src, dst, entries, rounding, range);
     answer_fields::answered(r, answer)
 }
 
@@ -85,6 +85,6 @@ pub extern "C" fn polskrea_convert_i64_to_f32(
 ) -> u8
     ensures { Exported 3 8 (map i64_bits src.now) (map f32_bits dst.old) (map i64_f32 entries.now) rounding range result answer.new (map f32_bits dst.new) }
 {
-    let r = typed::convert_i64_to_f32(src, dst, entries, rounding, range);
+    let r = typed::convert(src, dst, entries, rounding, range);
     answer_fields::answered(r, answer)
 }

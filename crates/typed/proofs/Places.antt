@@ -1,19 +1,23 @@
 -- Patterns as bytes, `bytes_of`: the pattern at a place is the one that was written there, and another at its place changes no other byte.
 use mathlib.Core.List.{List, [], ◌∷◌, ◌++◌, append_assoc, map}
 use mathlib.Core.Path.{◌≡◌, refl, sym, ap, ap₂, subst, ◌∙◌}
-use Prim.Native.Nat.{ℕ, zero, suc, ◌+◌, ◌*◌, ◌/◌, ◌%◌, ◌^◌, ◌≤◌, ◌<◌}
+use Prim.Native.Nat.{ℕ, zero, suc, ◌+◌, ◌*◌, ◌^◌, ◌≤◌, ◌<◌}
 use native.Mathlib.Omega.{arith}
-use native.Mathlib.Nat.{mod-lt, one-le-pow, pow-suc, zero-lt-suc, not-suc-le-zero, le_of_suc-le-suc, zero-mul, mod-eq_of_lt}
+use native.Mathlib.Nat.{not-suc-le-zero, le_of_suc-le-suc, zero-mul, mod-eq_of_lt}
 use lib.ListN.{length, get_or, take, drop, set, length-append, length-map, drop_of_length-le}
-use lib.Arith.{mod-mul, digits_div, digits_mod}
 use lib.Seq.{take-append-add, drop-append-add, drop_at, drop-cons}
 use Rattle.bytes_le.specs.Bytes.{to_le, pattern_at}
 use Rattle.bytes_le.proofs.Sums.{length-to_le}
 use Rattle.bytes_le.proofs.Places.{first_place, next_place}
 use Rattle.cast_spec.specs.Element.{Entry}
 use Rattle.cast_spec.specs.Chunk.{entries_from}
-use Rattle.typed_sources.proofs.Sources.{mapped_at}
 use Rattle.typed.specs.Typed.{bytes_of}
+
+-- the pattern of the element at a place
+pub mapped_at : {X : Type 0} (bits : X → ℕ) (xs : List X) (i : ℕ) (d : X) → i < length xs → bits (get_or xs i d) ≡ get_or (map bits xs) i 0
+mapped_at bits [] i d h = absurd (not-suc-le-zero h)
+mapped_at bits (x ∷ xs) zero d h = refl
+mapped_at bits (x ∷ xs) (suc i) d h = mapped_at bits xs i d (le_of_suc-le-suc h)
 
 pub map_set : {X : Type 0} (f : X → ℕ) (xs : List X) (i : ℕ) (y : X) → map f (set xs i y) ≡ set (map f xs) i (f y)
 map_set f [] i y = refl
@@ -86,13 +90,3 @@ module _ (sw dw : ℕ) (es : List Entry) (none : Entry) (key_fits : (j : ℕ) �
 
   pub entries_back : entries_from sw dw keys targets 0 (length es) ≡ es
   entries_back = from_on (length es) 0 (omega arith)
-
--- ---- the bytes of a number are those of its remainder
-pub low_bytes : (n v : ℕ) → to_le n (v % 256 ^ n) ≡ to_le n v
-low_bytes zero v = refl
-low_bytes (suc n) v =
-    let e : v % 256 ^ suc n ≡ v / 256 % 256 ^ n * 256 + v % 256 = ap (λ (z : ℕ). v % z) (pow-suc 256 n) ∙ mod-mul v (one-le-pow n 256 (zero-lt-suc 255)) (zero-lt-suc 255) in
-    let h : v % 256 < 256 = mod-lt v (zero-lt-suc 255) in
-    ap₂ (λ (x : ℕ) (l : List ℕ). x ∷ l)
-    (ap (λ (z : ℕ). z % 256) e ∙ digits_mod (v / 256 % 256 ^ n) h)
-    (ap (λ (z : ℕ). to_le n (z / 256)) e ∙ ap (to_le n) (digits_div (v / 256 % 256 ^ n) h) ∙ low_bytes n (v / 256))

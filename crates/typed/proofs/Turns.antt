@@ -1,33 +1,28 @@
--- The loop of a typed call keeps the definitions' account of the rest, and ends with the chunk call's contract. For any two kinds, any entries and any type of the destination's elements.
+-- A typed call meets the chunk call's contract: where its checks refuse it, and where its loop, which keeps the definitions' account of the elements, ends. For any pair of kinds, any entries and any types of elements.
 use mathlib.Core.List.{List, ◌++◌, map}
-use mathlib.Core.Bool.{Bool, true, false, cond, ◌&&◌, not, true≢false}
+use mathlib.Core.Bool.{Bool, true, false, cond, ◌&&◌, not}
 use mathlib.Core.Path.{◌≡◌, refl, sym, ap, ap₂, subst, ◌∙◌}
-use Prim.Native.Nat.{ℕ, suc, ◌+◌, ◌-◌, ◌*◌, ◌/◌, ◌%◌, ◌^◌, ◌≤◌, ◌<◌}
+use Prim.Native.Nat.{ℕ, ◌+◌, ◌-◌, ◌*◌, ◌/◌, ◌%◌, ◌^◌, ◌≤◌, ◌<◌}
 use native.Mathlib.Omega.{arith}
 use native.Mathlib.Nat.{mul-div_cancel, mul-mod_left, le_of_eq, sub-zero, zero-mul}
 use native.Mathlib.Numerals.{add-one}
-use lib.ListN.{length, get_or, take, drop, set, length-set, length-map}
+use lib.ListN.{length, get_or, take, drop, set, length-map}
 use lib.Dec.{T, ltb, eqb}
-use borrow.Author.Tests.{lt-ltb, eq-eqb, ltb-true, ltb-false, eqb-true, eqb-false}
+use Rattle.std.specs.Prelude.{Result, Ok, Err}
+use borrow.Author.Tests.{lt-ltb, eq-eqb, eqb-true, eqb-false}
 use Rattle.bytes_le.specs.Bytes.{to_le}
 use Rattle.bytes_le.proofs.Widths.{element_within}
-use Rattle.grid.specs.declared.RoundingMode.{RoundingMode}
 use Rattle.patterns.specs.Kind.{bits, width}
 use Rattle.patterns.specs.Value.{value_of}
-use Rattle.counts.specs.Counts.{no_counts, count_of}
-use Rattle.tallies.specs.Tally.{counts_in, no_tally, Countable}
+use Rattle.counts.specs.Counts.{count_of}
+use Rattle.tallies.specs.Tally.{counts_in, no_tally, Countable, Tallied}
 use Rattle.counts.specs.OneMore.{counted}
-use Rattle.answers.specs.declared.Answer.{Answer}
 use Rattle.counts.specs.declared.Counts.{Counts}
 use Rattle.counts.specs.declared.Fared.{Fared}
 use Rattle.answers.specs.declared.Reply.{Reply}
-use Rattle.codes.specs.declared.OutOfRangeMode.{OutOfRangeMode}
-use Rattle.answers.specs.declared.Lookup.{Lookup}
-use Rattle.answers.specs.declared.Outcome.{Outcome}
-use Rattle.answers.specs.declared.Outcome.TheVariants.{Stored, NanOrInf, OutOfRange, FloatOutOfRange}
 use Rattle.kinds.specs.Table.{kind_of}
 use Rattle.codes.specs.Codes.{rounding_of, range_of, wrap_barred}
-use Rattle.answers.specs.declared.Answer.TheVariants as A
+use Rattle.answers.specs.declared.Refusal.TheVariants as A
 use Rattle.cast_spec.specs.Contract.{Contract}
 use Rattle.cast_spec.proofs.Steps.{no_map}
 use Rattle.cast_spec.proofs.Contract.{contract}
@@ -36,15 +31,22 @@ use Rattle.cast_spec.proofs.Widths.{kind_fits, width_pos}
 use Rattle.cast_spec.proofs.Refusals.{RefusedBy, unknown, barred_wrap, mismatch, refused_meets}
 use Rattle.cast_spec.proofs.Runs.{Run, done, refused, kept, one_more, count_le, refused_converted}
 use Rattle.cast_spec.specs.Element.{Entry, Settings, lookup_of, found_or, outcome_of}
-use Rattle.cast_spec.specs.Fit.{unmapped}
 use Rattle.cast_spec.specs.Chunk.{Inputs, settings_of, codes_listed, map_whole, bytes_whole, call_of, outcome_at, answer_next, answer_from, answer_of, bytes_from, destination_of, converted_of, counts_below, counts_of, entries_from, Refuses}
-use Rattle.typed_states.specs.States.{going, stopped}
-use Rattle.typed_sources.specs.Sources.{state_at}
-use Rattle.typed_starts.specs.Starts.{start_of}
-use Rattle.typed_steps.specs.Loop.{outcome_for, next_state, stored_in, TalliedBy}
+use Rattle.answers.specs.Answer.{unconverted}
+use Rattle.typed_casts.specs.Cast.{cast_of}
+use Rattle.typed_casts.specs.declared.Modes.{Modes}
+use Rattle.typed.specs.Checks.{check_of}
 use Rattle.typed.specs.Typed.{bytes_of, typed_inputs}
-use Rattle.typed_states.specs.declared.State.{State}
-use Rattle.typed.proofs.Places.{map_set, mapped_below, entry_below, some_element, length_bytes, pattern_at_lem, set_bytes, entries_back}
+use Rattle.typed.proofs.Places.{map_set, mapped_at, mapped_below, entry_below, length_bytes, pattern_at_lem, set_bytes, entries_back}
+use Rattle.answers.specs.Outcome.{Answer, Outcome, stored_as}
+use Rattle.answers.specs.declared.ElementRefusal.TheVariants.{FloatOutOfRange, NanOrInf, OutOfRange}
+use Rattle.std.specs.Prelude.{Err, Ok, Option}
+
+-- the elements below i are converted as the definitions say of the call I, of n elements and of w bytes for each in the destination: the bytes and the tally
+pub record Inv (I : Inputs) (w n i : ℕ) (bytes ts : List ℕ) : Type 0 where
+  pub six : length ts ≡ 6
+  pub run : Run (outcome_at (call_of I)) w n (answer_of I) (destination_of I) i bytes
+  pub counts : counts_in ts ≡ counts_below (outcome_at (call_of I)) i
 
 -- ---- whole elements
 whole : (n l w : ℕ) → 0 < w → l ≡ n * w → (l / w ≡ n) × (l % w ≡ 0)
@@ -67,7 +69,7 @@ pub record Elements (X Y Z : Type 0) : Type 0 where
   pub key_fits : (e : Z) → (entry_bits e).key < 2 ^ bits (kind_of from)
   pub target_fits : (e : Z) → (entry_bits e).target < 2 ^ bits (kind_of to)
   -- a pattern that is stored is the one that the element then has
-  pub keeps : (es : List Z) (rounding range : ℕ) (x : X) (b : ℕ) (f : Fared) → outcome_of (settings from to (map entry_bits es) rounding range) (source_bits x) ≡ Stored b f
+  pub keeps : (es : List Z) (rounding range : ℕ) (x : X) (b : ℕ) (f : Fared) → outcome_of (settings from to (map entry_bits es) rounding range) (source_bits x) ≡ stored_as b f
       → to_le (width (kind_of to)) (target_bits (target_of b)) ≡ to_le (width (kind_of to)) b
 
 module _ {X Y Z : Type 0} (P : Elements X Y Z) (xs : List X) (ys : List Z) (rounding range : ℕ) where
@@ -92,23 +94,14 @@ module _ {X Y Z : Type 0} (P : Elements X Y Z) (xs : List X) (ys : List Z) (roun
   fits : (i : ℕ) → i < length ps → get_or ps i 0 < 2 ^ bits (kind_of from)
   fits = mapped_below P.source_bits (2 ^ bits (kind_of from)) P.source_fits xs
 
-  -- what the call's codes say, and a state that has it
-  abbrev rule : RoundingMode
-  rule = rounding_of rounding
-
-  abbrev choice : OutOfRangeMode
-  choice = range_of range
-
-  pub record Decoded (s : State) : Type 0 where
-    pub rule_is : s.rounding ≡ rule
-    pub choice_is : s.range ≡ choice
+  -- what the call's codes say
+  abbrev modes : Modes
+  modes = record { rounding = rounding_of rounding; range = range_of range }
 
   -- what the program has of an element is what its steps come to
-  pub outcome_is : (s : State) (f : Lookup) → Decoded s → f ≡ lookup_of (kind_of from) (value_of (kind_of from) s.x) es → outcome_for from to s f ≡ outcome_of S s.x
+  outcome_is : (x : ℕ) (f : Option ℕ) → f ≡ lookup_of (kind_of from) (value_of (kind_of from) x) es → cast_of from to modes f x ≡ outcome_of S x
   unfolding outcome_of
-  outcome_is s f d e =
-      ap₂ (λ (u : RoundingMode) (g : OutOfRangeMode). found_or f (unmapped (kind_of from) (kind_of to) u g s.x)) d.rule_is d.choice_is
-      ∙ ap₂ found_or e (no_map (kind_of from) (kind_of to) rule choice es s.x (kind_of to) (value_of (kind_of from) s.x))
+  outcome_is x f e = ap₂ found_or e (no_map (kind_of from) (kind_of to) modes.rounding modes.range es x (kind_of to) (value_of (kind_of from) x))
 
   abbrev v : ℕ
   v = width (kind_of from)
@@ -191,140 +184,122 @@ module _ {X Y Z : Type 0} (P : Elements X Y Z) (xs : List X) (ys : List Z) (roun
     abbrev o : ℕ → Outcome
     o = outcome_at (call_of In)
 
-    -- the element at the state's position is to be converted, and the tally ts has those before it
-    pub record On (s : State) (zs : List Y) (ts : List ℕ) : Type 0 where
-      pub below : s.at < length ps
-      pub meet : length ps ≡ length ds
-      pub decoded : Decoded s
-      pub x_is : s.x ≡ get_or ps s.at 0
-      pub run : Run o w (length ps) R W s.at (bytes zs)
-      pub counts : counts_in ts ≡ counts_below o s.at
-
     abbrev reply : Answer → List ℕ → Reply
     reply a ts = record { answer = a; counts = counts_in ts }
-
-    -- what holds where the loop's test is reached, at the destination zs and the tally ts
-    pub record Inv (s : State) (zs : List Y) (ts : List ℕ) : Type 0 where
-      pub long : length zs ≡ length ds
-      pub six : length ts ≡ 6
-      pub on : s.more ≡ true → On s zs ts
-      pub off : s.more ≡ false → Contract In (reply s.answer ts) (bytes zs)
-
-    -- so many turns at most are left
-    abbrev pub left : State → ℕ
-    left s = cond s.more (suc (length ps - s.at)) 0
-
-    over : (s : State) (i : ℕ) (a : Answer) (zs : List Y) (ts : List ℕ) → length zs ≡ length ds → length ts ≡ 6 → Contract In (reply a ts) (bytes zs) → Inv (stopped s.rounding s.range i a) zs ts
-    over s i a zs ts long six c = record { long = long; six = six; on = λ h. absurd (true≢false (sym h)); off = λ _. c }
 
     -- the counts of the elements below i are the call's, where its answer says that so many are converted
     counts_are : (i : ℕ) (a : Answer) → a ≡ R → converted_of (call_of In).count a ≡ i → counts_below o i ≡ counts_of In
     unfolding counts_of
     counts_are i a e h = ap (counts_below o) (sym h ∙ ap (converted_of (call_of In).count) e)
 
-    at_position : (s : State) → Decoded s → (i : ℕ) (zs : List Y) (ts : List ℕ) → i ≤ length ps → length ps ≡ length ds → length zs ≡ length ds → length ts ≡ 6 → Run o w (length ps) R W i (bytes zs) → counts_in ts ≡ counts_below o i
-        → Inv (state_at s.rounding s.range ps i) zs ts
-    at_position s d i zs ts h meet long six run counts = go (ltb i (length ps)) refl
+    -- ---- the checks before the elements
+    long_map : length (map of ds) ≡ length ds
+    long_map = length-map ds of
+
+    long_source : length ps ≡ length xs
+    long_source = length-map xs P.source_bits
+
+    abbrev checks : Bool → Bool → Bool → Result Modes Answer
+    checks t b u = cond t (cond b (Err A.BarredWrap) (cond u (Ok modes) (Err (A.LengthMismatch (length xs) (length ds))))) (Err A.UnknownCode)
+
+    pub refuses_call : (a : Answer) (code : ℕ) → code ≡ to → Err a ≡ check_of (length xs) (length ds) code rounding range → (r : Reply) → r ≡ unconverted a → Contract In r (bytes ds)
+    refuses_call a code is h r e = subst (λ (r : Reply). Contract In r (bytes ds)) (sym e) (refused_meets In a (by_tests (ltb rounding 5 && ltb range 3) refl (wrap_barred to range) refl (eqb (length xs) (length ds)) refl (h ∙ ap (λ (n : ℕ). check_of (length xs) (length ds) n rounding range) is)))
       where
-        go : (t : Bool) → ltb i (length ps) ≡ t → Inv (cond t (going s.rounding s.range i (get_or ps i 0)) (stopped s.rounding s.range i A.Converted)) zs ts
-        go true e = record {
-          long = long;
-          six = six;
-          on = λ _. record { below = ltb-true i (length ps) e; meet = meet; decoded = record { rule_is = d.rule_is; choice_is = d.choice_is }; x_is = refl; run = run; counts = counts };
-          off = λ f. absurd (true≢false f);
-        }
-        go false e =
-            let l : i ≡ length ps = omega (arith, ltb-false i (length ps) e) in
-            let d = done o w (length ps) R W i (bytes zs) run l in
-            over s i A.Converted zs ts long six (contract In (reply A.Converted ts) (bytes zs) d.0 (counts ∙ counts_are i A.Converted d.0 (count_is (map of ds) ∙ sym l)) d.1)
+        by_tests : (t : Bool) → ltb rounding 5 && ltb range 3 ≡ t → (b : Bool) → wrap_barred to range ≡ b → (u : Bool) → eqb (length xs) (length ds) ≡ u → Err a ≡ checks t b u → RefusedBy In a
+        by_tests false e b g u f h = let k : a ≡ Err A.UnknownCode = cc in subst (RefusedBy In) (sym k) (unknown In (codes_are (map of ds) ∙ e))
+        by_tests true e true g u f h = let k : a ≡ Err A.BarredWrap = cc in subst (RefusedBy In) (sym k) (barred_wrap In (codes_are (map of ds) ∙ e) (ap not g))
+        by_tests true e false g true f h = let z : ◌≡◌ {A = ℕ} 0 1 = cc in absurd (omega arith)
+        by_tests true e false g false f h =
+            let k : a ≡ Err (A.LengthMismatch (length xs) (length ds)) = cc in
+            let n : length xs ≡ length ds → ⊥ = eqb-false (length xs) (length ds) f in
+            subst (RefusedBy In) (ap₂ Err (A.LengthMismatch ((source_whole (map of ds)).0 ∙ long_source) ((target_whole (map of ds)).0 ∙ long_map)) ∙ sym k)
+            (mismatch In (codes_are (map of ds) ∙ e) (ap not g) (map_is_whole (map of ds)) (bytes_are_whole (map of ds))
+            (λ h. n (sym ((source_whole (map of ds)).0 ∙ long_source) ∙ h ∙ (target_whole (map of ds)).0 ∙ long_map)))
 
-    pub starts : (ts : List ℕ) → ts ≡ no_tally → Inv (start_of ps (length ds) to rounding range) ds ts
-    starts ts none = by_tests (ltb rounding 5 && ltb range 3) refl (wrap_barred to range) refl (eqb (length ps) (length ds)) refl
+    -- what the checks leave where they refuse nothing
+    record Passed (m : Modes) : Type 0 where
+      pub modes_are : m ≡ modes
+      pub meet : length xs ≡ length ds
+      pub codes : ltb rounding 5 && ltb range 3 ≡ true
+      pub permitted : wrap_barred to range ≡ false
+
+    passed : (m : Modes) → Ok m ≡ check_of (length xs) (length ds) to rounding range → Passed m
+    passed m h = by_tests (ltb rounding 5 && ltb range 3) refl (wrap_barred to range) refl (eqb (length xs) (length ds)) refl h
       where
-        six : length ts ≡ 6
-        six = ap length none
+        by_tests : (t : Bool) → ltb rounding 5 && ltb range 3 ≡ t → (b : Bool) → wrap_barred to range ≡ b → (u : Bool) → eqb (length xs) (length ds) ≡ u → Ok m ≡ checks t b u → Passed m
+        by_tests false e b g u f h = let z : ◌≡◌ {A = ℕ} 0 1 = cc in absurd (omega arith)
+        by_tests true e true g u f h = let z : ◌≡◌ {A = ℕ} 0 1 = cc in absurd (omega arith)
+        by_tests true e false g false f h = let z : ◌≡◌ {A = ℕ} 0 1 = cc in absurd (omega arith)
+        by_tests true e false g true f h = record { modes_are = cc; meet = eqb-true (length xs) (length ds) f; codes = e; permitted = g }
 
-        none_yet : counts_in ts ≡ no_counts
-        none_yet = ap counts_in none
+    -- ---- the elements, where the checks refuse nothing
+    module _ (m : Modes) (code : ℕ) (code_is : code ≡ to) (checked : Ok m ≡ check_of (length xs) (length ds) code rounding range) where
+      pass : Passed m
+      pass = passed m (checked ∙ ap (λ (n : ℕ). check_of (length xs) (length ds) n rounding range) code_is)
 
-        long : length (map of ds) ≡ length ds
-        long = length-map ds of
+      meet : length ps ≡ length ds
+      meet = long_source ∙ pass.meet
 
-        uncounted : (a : Answer) → RefusedBy In a → Contract In (reply a ts) (bytes ds)
-        uncounted a r = subst (λ (c : Counts). Contract In (record { answer = a; counts = c }) (bytes ds)) (sym none_yet) (refused_meets In a r)
+      pub starts : (ts : List ℕ) → ts ≡ no_tally → Inv In w (length ps) 0 (bytes ds) ts
+      starts ts none = record { six = ap length none; run = first (map of ds) pass.codes (ap not pass.permitted) (meet ∙ sym long_map); counts = ap counts_in none }
 
-        by_tests : (t : Bool) → ltb rounding 5 && ltb range 3 ≡ t → (b : Bool) → wrap_barred to range ≡ b → (u : Bool) → eqb (length ps) (length ds) ≡ u
-            → Inv (let s = cond t (cond b (stopped rule choice 0 A.BarredWrap) (cond u (going rule choice 0 0) (stopped rule choice 0 (A.LengthMismatch (length ps) (length ds))))) (stopped rule choice 0 A.UnknownCode) in cond s.more (state_at s.rounding s.range ps 0) s) ds ts
-        by_tests false e b g u f = over (going rule choice 0 0) 0 A.UnknownCode ds ts refl six (uncounted A.UnknownCode (unknown In (codes_are (map of ds) ∙ e)))
-        by_tests true e true g u f = over (going rule choice 0 0) 0 A.BarredWrap ds ts refl six (uncounted A.BarredWrap (barred_wrap In (codes_are (map of ds) ∙ e) (ap not g)))
-        by_tests true e false g false f =
-            let n : length ps ≡ length ds → ⊥ = eqb-false (length ps) (length ds) f in
-            over (going rule choice 0 0) 0 (A.LengthMismatch (length ps) (length ds)) ds ts refl six
-            (uncounted (A.LengthMismatch (length ps) (length ds))
-            (subst (RefusedBy In) (ap₂ A.LengthMismatch (source_whole (map of ds)).0 ((target_whole (map of ds)).0 ∙ long))
-            (mismatch In (codes_are (map of ds) ∙ e) (ap not g) (map_is_whole (map of ds)) (bytes_are_whole (map of ds)) (λ h. n (sym (source_whole (map of ds)).0 ∙ h ∙ (target_whole (map of ds)).0 ∙ long)))))
-        by_tests true e false g true f = let m = eqb-true (length ps) (length ds) f in at_position (going rule choice 0 0) (record { rule_is = refl; choice_is = refl }) 0 ds ts (omega arith) m refl six (first (map of ds) e (ap not g) (m ∙ sym long)) none_yet
+      pub ends : (i : ℕ) (zs : List Y) (ts : List ℕ) → i ≡ length xs → Inv In w (length ps) i (bytes zs) ts → (r : Reply) → r ≡ reply (Ok tt) ts → Contract In r (bytes zs)
+      ends i zs ts e inv r is =
+          let l : i ≡ length ps = e ∙ sym long_source in
+          let d = done o w (length ps) R W i (bytes zs) inv.run l in
+          subst (λ (r : Reply). Contract In r (bytes zs)) (sym is) (contract In (reply (Ok tt) ts) (bytes zs) d.0 (inv.counts ∙ counts_are i (Ok tt) d.0 (count_is (map of ds) ∙ sym l)) d.1)
 
-    -- ---- one turn
-    keeps : (i b : ℕ) (f : Fared) → i < length ps → outcome_of S (get_or ps i 0) ≡ Stored b f → to_le w (of (read b)) ≡ to_le w b
-    keeps i b f h e = let x = some_element P.source_bits xs i h in P.keeps ys rounding range x.0 b f (ap (outcome_of S) x.1 ∙ e)
+      module _ (i : ℕ) (zs : List Y) (ts : List ℕ) (inv : Inv In w (length ps) i (bytes zs) ts) (inside : i < length xs) (long : length zs ≡ length ds) where
+        below : i < length ps
+        below = omega (arith, long_source)
 
-    module _ (s : State) (zs : List Y) (ts : List ℕ) (inv : Inv s zs ts) (more : s.more ≡ true) where
-      now : On s zs ts
-      now = inv.on more
+        within : i < length zs
+        within = omega (arith, pass.meet)
 
-      abbrev i : ℕ
-      i = s.at
+        -- each count is at most the position, which is below the length of the destination
+        pub countable : length ds < 2 ^ 64 → Countable ts
+        countable h = record { six = inv.six; room = λ f. let l : count_of f (counts_in ts) ≤ i = subst (λ (c : Counts). count_of f c ≤ i) (sym inv.counts) (count_le o f i) in omega (arith, pass.meet) }
 
-      within : i < length zs
-      within = omega (arith, now.below, now.meet, inv.long)
+        -- the element's outcome, as the program has it of the element x
+        abbrev Comes : X → Option ℕ → Outcome → Type 0
+        Comes x f z = (x ≡ get_or xs i x) × (f ≡ lookup_of (kind_of from) (value_of (kind_of from) (P.source_bits x)) es) × (z ≡ cast_of from to m f (P.source_bits x))
 
-      -- each count is at most the position, which is below the length of the destination
-      countable : length ds < 2 ^ 64 → Countable ts
-      countable h = record { six = inv.six; room = λ f. let l : count_of f (counts_in ts) ≤ i = subst (λ (c : Counts). count_of f c ≤ i) (sym now.counts) (count_le o f i) in omega (arith, l, h, now.below, now.meet) }
+        -- a turn at an element of the outcome z: where it is stored, the next turn goes on from it, and where it is refused, the call ends there
+        pub record Turn (z : Outcome) : Type 0 where
+          pub goes_on : (b : ℕ) (how : Fared) → z ≡ stored_as b how → (y : Y) → y ≡ read b → (ts' : List ℕ) → Tallied how ts ts' → Inv In w (length ps) (i + 1) (bytes (set zs i y)) ts'
+          pub ends_there : ((b : ℕ) (how : Fared) → z ≡ stored_as b how → ⊥) → (a : Answer) → a ≡ answer_next z i (Ok tt) → (r : Reply) → r ≡ reply a ts → Contract In r (bytes zs)
 
-      pub asks : length ds < 2 ^ 64 → (s.x < 2 ^ bits (kind_of from)) × (s.at < length xs) × (s.at < length zs) × Countable ts
-      asks h = (subst (λ (z : ℕ). z < 2 ^ bits (kind_of from)) (sym now.x_is) (fits i now.below), subst (λ (n : ℕ). i < n) (length-map xs P.source_bits) now.below, within, countable h)
+        module _ (x : X) (f : Option ℕ) (z : Outcome) (comes : Comes x f z) where
+          own : outcome_of S (P.source_bits x) ≡ z
+          own = sym (comes.2 ∙ ap (λ (n : Modes). cast_of from to n f (P.source_bits x)) pass.modes_are ∙ outcome_is (P.source_bits x) f comes.1)
 
-      turned : (z : Outcome) → z ≡ outcome_of S (get_or ps i 0) → (ts' : List ℕ) → TalliedBy z ts ts' → Inv (next_state z ps s) (stored_in read z zs i) ts' × (left (next_state z ps s) < left s)
-      turned z e ts' tallied = (next z (e ∙ sym (outcome_at_lem (map of ds) i now.below)) e tallied, subst (λ (n : ℕ). left (next_state z ps s) < n) (sym turns_left) (fewer z))
-        where
-          turns_left : left s ≡ suc (length ps - i)
-          turns_left = ap (λ (t : Bool). cond t (suc (length ps - i)) 0) more
+          outcome_at_i : z ≡ o i
+          outcome_at_i = sym own ∙ ap (outcome_of S) (ap P.source_bits comes.0 ∙ mapped_at P.source_bits xs i x inside) ∙ sym (outcome_at_lem (map of ds) i below)
 
-          fewer : (x : Outcome) → left (next_state x ps s) < suc (length ps - i)
-          fewer (Stored b _) = go (ltb (i + 1) (length ps))
+          stores : (b : ℕ) (how : Fared) → z ≡ stored_as b how → (y : Y) → y ≡ read b → (ts' : List ℕ) → Tallied how ts ts' → Inv In w (length ps) (i + 1) (bytes (set zs i y)) ts'
+          stores b how e y r ts' t =
+              let room : i * w + w ≤ length (bytes zs) = element_within w (length zs) i (le_of_eq (sym (length_bytes w (map of zs) ∙ ap (λ (n : ℕ). n * w) (length-map zs of)))) within in
+              let k : o i ≡ stored_as b how = sym outcome_at_i ∙ e in
+              record {
+                six = t.six;
+                run = rw add-one (kept o w (length ps) R W i (bytes zs) inv.run below b how (bytes (set zs i y)) k room
+                    (ap (bytes_of w) (map_set of zs i y) ∙ set_bytes w (map of zs) i (of y) (subst (λ (n : ℕ). i < n) (sym (length-map zs of)) within)
+                    ∙ ap (λ (t : List ℕ). take (i * w) (bytes zs) ++ (t ++ drop w (drop (i * w) (bytes zs)))) (ap (λ (u : Y). to_le w (of u)) r ∙ P.keeps ys rounding range x b how (own ∙ e))));
+                counts = t.counts ∙ ap (counted how) inv.counts ∙ rw add-one (one_more o i b how k);
+              }
+
+          refuses : ((b : ℕ) (how : Fared) → z ≡ stored_as b how → ⊥) → (a : Answer) → a ≡ answer_next z i (Ok tt) → (r : Reply) → r ≡ reply a ts → Contract In r (bytes zs)
+          refuses n a e r says =
+              let h : Refuses z = refuses_of z n in
+              let g = refused o w (length ps) R W i (bytes zs) inv.run below (subst Refuses outcome_at_i h) in
+              let is : a ≡ R = e ∙ ap (λ (u : Outcome). answer_next u i (Ok tt)) outcome_at_i ∙ sym g.0 in
+              subst (λ (r : Reply). Contract In r (bytes zs)) (sym says) (contract In (reply a ts) (bytes zs) is (inv.counts ∙ counts_are i a is (ap (converted_of (call_of In).count) e ∙ refused_converted (call_of In).count i z h)) g.1)
             where
-              go : (t : Bool) → left (cond t (going s.rounding s.range (i + 1) (get_or ps (i + 1) 0)) (stopped s.rounding s.range (i + 1) A.Converted)) < suc (length ps - i)
-              go true = omega (arith, now.below)
-              go false = omega arith
-          fewer (NanOrInf x) = omega arith
-          fewer (OutOfRange x lo hi) = omega arith
-          fewer (FloatOutOfRange x lo hi) = omega arith
+              refuses_of : (u : Outcome) → ((b : ℕ) (how : Fared) → u ≡ stored_as b how → ⊥) → Refuses u
+              refuses_of (Ok s) n = n s.pattern s.fared refl
+              refuses_of (Err (NanOrInf v)) n = tt
+              refuses_of (Err (OutOfRange v lo hi)) n = tt
+              refuses_of (Err (FloatOutOfRange v lo hi)) n = tt
 
-          stays : (x : Outcome) → x ≡ o i → Refuses x → ts' ≡ ts → Inv (stopped s.rounding s.range i (answer_next x i A.Converted)) zs ts'
-          stays x f r same =
-              let a = answer_next x i A.Converted in
-              let g = refused o w (length ps) R W i (bytes zs) now.run now.below (subst Refuses f r) in
-              let is : a ≡ R = ap (λ (u : Outcome). answer_next u i A.Converted) f ∙ sym g.0 in
-              subst (Inv (stopped s.rounding s.range i a) zs) (sym same) (over s i a zs ts inv.long inv.six (contract In (reply a ts) (bytes zs) is (now.counts ∙ counts_are i a is (refused_converted (call_of In).count i x r)) g.1))
-
-          next : (x : Outcome) → x ≡ o i → x ≡ outcome_of S (get_or ps i 0) → TalliedBy x ts ts' → Inv (next_state x ps s) (stored_in read x zs i) ts'
-          next (Stored b how) f h t =
-              let l : i < length zs = within in
-              let room : i * w + w ≤ length (bytes zs) = element_within w (length zs) i (le_of_eq (sym (length_bytes w (map of zs) ∙ ap (λ (n : ℕ). n * w) (length-map zs of)))) l in
-              at_position s now.decoded (i + 1) (set zs i (read b)) ts' (omega (arith, now.below)) now.meet (length-set zs i (read b) ∙ inv.long) t.six
-              (rw add-one (kept o w (length ps) R W i (bytes zs) now.run now.below b how (bytes (set zs i (read b))) (sym f) room
-              (ap (bytes_of w) (map_set of zs i (read b)) ∙ set_bytes w (map of zs) i (of (read b)) (subst (λ (n : ℕ). i < n) (sym (length-map zs of)) l)
-              ∙ ap (λ (t : List ℕ). take (i * w) (bytes zs) ++ (t ++ drop w (drop (i * w) (bytes zs)))) (keeps i b how now.below (sym h)))))
-              (t.counts ∙ ap (counted how) now.counts ∙ rw add-one (one_more o i b how (sym f)))
-          next (NanOrInf x) f h t = stays (NanOrInf x) f tt t
-          next (OutOfRange x lo hi) f h t = stays (OutOfRange x lo hi) f tt t
-          next (FloatOutOfRange x lo hi) f h t = stays (FloatOutOfRange x lo hi) f tt t
-
-      -- what was found, and what the step then says of the state, of the destination and of the tally
-      pub turns : (f : Lookup) → f ≡ lookup_of (kind_of from) (value_of (kind_of from) s.x) es → (r : State) (ws : List Y) (ts' : List ℕ)
-          → (r ≡ next_state (outcome_for from to s f) ps s) × (ws ≡ stored_in read (outcome_for from to s f) zs s.at) × TalliedBy (outcome_for from to s f) ts ts' → Inv r ws ts' × (left r < left s)
-      turns f e r ws ts' said =
-          let t = turned (outcome_for from to s f) (outcome_is s f now.decoded e ∙ ap (outcome_of S) now.x_is) ts' said.2 in
-          (subst (λ (p : State × List Y). Inv p.0 p.1 ts') (λ j. (sym said.0 j, sym said.1 j)) t.0, subst (λ (x : State). left x < left s) (sym said.0) t.1)
+          pub turns : Turn z
+          turns = record { goes_on = stores; ends_there = refuses }

@@ -31,11 +31,11 @@ never_8 P whole xs ys rounding range qs ds r c e = go (eqb range 2) (ap (λ (b :
     go true e = true≢false e
     go false e = true≢false e
 
-pub f64_to_u8_never_8 : Never 8 (pairs.f64_to_u8).elements
-f64_to_u8_never_8 = never_8 (pairs.f64_to_u8).elements refl
+pub f64_to_u8_never_8 : Never 8 pairs.f64_to_u8
+f64_to_u8_never_8 = never_8 pairs.f64_to_u8 refl
 
-pub f64_to_i32_never_8 : Never 8 (pairs.f64_to_i32).elements
-f64_to_i32_never_8 = never_8 (pairs.f64_to_i32).elements refl
+pub f64_to_i32_never_8 : Never 8 pairs.f64_to_i32
+f64_to_i32_never_8 = never_8 pairs.f64_to_i32 refl
 
-pub f32_to_u8_never_8 : Never 8 (pairs.f32_to_u8).elements
-f32_to_u8_never_8 = never_8 (pairs.f32_to_u8).elements refl
+pub f32_to_u8_never_8 : Never 8 pairs.f32_to_u8
+f32_to_u8_never_8 = never_8 pairs.f32_to_u8 refl

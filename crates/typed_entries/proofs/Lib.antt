@@ -1,2 +1,1 @@
-pub mod EntryTypes
 pub mod Lookups

@@ -1,13 +1,27 @@
 // The map of a typed call: entries of a key and a target, and the target of the first entry that matches.
 #![tactic(auto)]
 
-ghost use Rattle.std.specs.Prelude.{◌≡◌, map, ◌%◌, ◌^◌};
+ghost use Rattle.std.specs.Prelude.{◌≡◌, map};
 ghost use Rattle.patterns.specs.Value.{value_of};
 ghost use Rattle.kinds.specs.Table.{kind_of};
-ghost use Rattle.cast_spec.specs.Element.{matches, lookup_of};
-ghost use Rattle.typed_entries.specs.Entries.{f64_u8, f64_i32, f32_u8, f64_f32, i64_f32};
+ghost use Rattle.cast_spec.specs.Element.{lookup_of};
+ghost use Rattle.typed_entries.specs.Entries.{entry_of};
 
-use answers::Lookup;
+use typed_keys::Key;
+use typed_values::Number;
+
+// A map entry of a pair of kinds. C knows each pair's by its fields, so each is a struct with no type parameters.
+pub trait MapEntry<K: Number, T: Number>: Copy {
+    ghost key: { Self → K };
+
+    ghost target: { Self → T };
+
+    fn key(self) -> K
+        ensures { result ≡ key self };
+
+    fn target(self) -> T
+        ensures { result ≡ target self };
+}
 
 // A map entry of f64 to u8.
 #[repr(C)]
@@ -15,6 +29,20 @@ use answers::Lookup;
 pub struct EntryF64U8 {
     pub key: f64,
     pub target: u8,
+}
+
+impl MapEntry<f64, u8> for EntryF64U8 {
+    ghost key = { λ e. e.key };
+
+    ghost target = { λ e. e.target };
+
+    fn key(self) -> f64 {
+        self.key
+    }
+
+    fn target(self) -> u8 {
+        self.target
+    }
 }
 
 // A map entry of f64 to i32.
@@ -25,12 +53,40 @@ pub struct EntryF64I32 {
     pub target: i32,
 }
 
+impl MapEntry<f64, i32> for EntryF64I32 {
+    ghost key = { λ e. e.key };
+
+    ghost target = { λ e. e.target };
+
+    fn key(self) -> f64 {
+        self.key
+    }
+
+    fn target(self) -> i32 {
+        self.target
+    }
+}
+
 // A map entry of f32 to u8.
 #[repr(C)]
 #[derive(Clone, Copy)]
 pub struct EntryF32U8 {
     pub key: f32,
     pub target: u8,
+}
+
+impl MapEntry<f32, u8> for EntryF32U8 {
+    ghost key = { λ e. e.key };
+
+    ghost target = { λ e. e.target };
+
+    fn key(self) -> f32 {
+        self.key
+    }
+
+    fn target(self) -> u8 {
+        self.target
+    }
 }
 
 // A map entry of f64 to f32: a record of two floats.
@@ -41,6 +97,20 @@ pub struct Entry {
     pub target: f32,
 }
 
+impl MapEntry<f64, f32> for Entry {
+    ghost key = { λ e. e.key };
+
+    ghost target = { λ e. e.target };
+
+    fn key(self) -> f64 {
+        self.key
+    }
+
+    fn target(self) -> f32 {
+        self.target
+    }
+}
+
 // A map entry of i64 to f32.
 #[repr(C)]
 #[derive(Clone, Copy)]
@@ -49,157 +119,26 @@ pub struct EntryI64F32 {
     pub target: f32,
 }
 
-// ---- f64 to u8
+impl MapEntry<i64, f32> for EntryI64F32 {
+    ghost key = { λ e. e.key };
 
-// Whether an entry matches the f64 of the pattern x.
-fn matches_f64_u8(e: EntryF64U8, x: u64) -> bool
-    ensures { result ≡ matches (value_of (kind_of 9) x) (value_of (kind_of 9) (f64_u8 e).key) }
-{
-    typed_keys::key_matches_f64(e.key, x)
-}
+    ghost target = { λ e. e.target };
 
-// An entry's target.
-fn found_f64_u8(e: EntryF64U8) -> Lookup
-    ensures { result ≡ Lookup.Found (f64_u8 e).target }
-{
-    Lookup::Found(typed_values::bits_u8(e.target))
+    fn key(self) -> i64 {
+        self.key
+    }
+
+    fn target(self) -> f32 {
+        self.target
+    }
 }
 
 // The target of the first entry that matches.
-pub fn lookup_f64_u8(entries: &[EntryF64U8], x: u64) -> Lookup
-    ensures { result ≡ lookup_of (kind_of 9) (value_of (kind_of 9) x) (map f64_u8 entries.now) }
+pub fn lookup<K: Key, T: Number, E: MapEntry<K, T>>(entries: &[E], x: K) -> Option<u64>
+    ensures { result ≡ lookup_of (kind_of K.CODE) (value_of (kind_of K.CODE) (K.pattern x)) (map (entry_of K.pattern T.pattern E.key E.target) entries.now) }
 {
-    let mut i = 0;
-    while i < entries.len() {
-        let e = entries[i];
-        if matches_f64_u8(e, x) {
-            return found_f64_u8(e);
-        }
-        i += 1;
+    match entries.iter().find(|entry| x.matches(entry.key())) {
+        Some(entry) => Some(entry.target().pattern()),
+        None => None,
     }
-    Lookup::Missing
-}
-
-// ---- f64 to i32
-
-// Whether an entry matches the f64 of the pattern x.
-fn matches_f64_i32(e: EntryF64I32, x: u64) -> bool
-    ensures { result ≡ matches (value_of (kind_of 9) x) (value_of (kind_of 9) (f64_i32 e).key) }
-{
-    typed_keys::key_matches_f64(e.key, x)
-}
-
-// An entry's target.
-fn found_f64_i32(e: EntryF64I32) -> Lookup
-    ensures { result ≡ Lookup.Found (f64_i32 e).target }
-{
-    Lookup::Found(typed_values::bits_i32(e.target))
-}
-
-// The target of the first entry that matches.
-pub fn lookup_f64_i32(entries: &[EntryF64I32], x: u64) -> Lookup
-    ensures { result ≡ lookup_of (kind_of 9) (value_of (kind_of 9) x) (map f64_i32 entries.now) }
-{
-    let mut i = 0;
-    while i < entries.len() {
-        let e = entries[i];
-        if matches_f64_i32(e, x) {
-            return found_f64_i32(e);
-        }
-        i += 1;
-    }
-    Lookup::Missing
-}
-
-// ---- f32 to u8
-
-// Whether an entry matches the f32 of the pattern x.
-fn matches_f32_u8(e: EntryF32U8, x: u64) -> bool
-    ensures { result ≡ matches (value_of (kind_of 8) (x % 2 ^ 32)) (value_of (kind_of 8) (f32_u8 e).key) }
-{
-    typed_keys::key_matches_f32(e.key, x)
-}
-
-// An entry's target.
-fn found_f32_u8(e: EntryF32U8) -> Lookup
-    ensures { result ≡ Lookup.Found (f32_u8 e).target }
-{
-    Lookup::Found(typed_values::bits_u8(e.target))
-}
-
-// The target of the first entry that matches.
-pub fn lookup_f32_u8(entries: &[EntryF32U8], x: u64) -> Lookup
-    ensures { result ≡ lookup_of (kind_of 8) (value_of (kind_of 8) (x % 2 ^ 32)) (map f32_u8 entries.now) }
-{
-    let mut i = 0;
-    while i < entries.len() {
-        let e = entries[i];
-        if matches_f32_u8(e, x) {
-            return found_f32_u8(e);
-        }
-        i += 1;
-    }
-    Lookup::Missing
-}
-
-// ---- f64 to f32
-
-// Whether an entry matches the f64 of the pattern x.
-fn matches_f64_f32(e: Entry, x: u64) -> bool
-    ensures { result ≡ matches (value_of (kind_of 9) x) (value_of (kind_of 9) (f64_f32 e).key) }
-{
-    typed_keys::key_matches_f64(e.key, x)
-}
-
-// An entry's target.
-fn found_f64_f32(e: Entry) -> Lookup
-    ensures { result ≡ Lookup.Found (f64_f32 e).target }
-{
-    Lookup::Found(typed_values::bits_f32(e.target))
-}
-
-// The target of the first entry that matches.
-pub fn lookup_f64_f32(entries: &[Entry], x: u64) -> Lookup
-    ensures { result ≡ lookup_of (kind_of 9) (value_of (kind_of 9) x) (map f64_f32 entries.now) }
-{
-    let mut i = 0;
-    while i < entries.len() {
-        let e = entries[i];
-        if matches_f64_f32(e, x) {
-            return found_f64_f32(e);
-        }
-        i += 1;
-    }
-    Lookup::Missing
-}
-
-// ---- i64 to f32
-
-// Whether an entry matches the i64 of the pattern x.
-fn matches_i64_f32(e: EntryI64F32, x: u64) -> bool
-    ensures { result ≡ matches (value_of (kind_of 3) x) (value_of (kind_of 3) (i64_f32 e).key) }
-{
-    typed_keys::key_matches_i64(e.key, x)
-}
-
-// An entry's target.
-fn found_i64_f32(e: EntryI64F32) -> Lookup
-    ensures { result ≡ Lookup.Found (i64_f32 e).target }
-{
-    Lookup::Found(typed_values::bits_f32(e.target))
-}
-
-// The target of the first entry that matches.
-pub fn lookup_i64_f32(entries: &[EntryI64F32], x: u64) -> Lookup
-    ensures { result ≡ lookup_of (kind_of 3) (value_of (kind_of 3) x) (map i64_f32 entries.now) }
-{
-    let mut i = 0;
-    while i < entries.len() {
-        let e = entries[i];
-        if matches_i64_f32(e, x) {
-            return found_i64_f32(e);
-        }
-        i += 1;
-    }
-    Lookup::Missing
 }

@@ -1,2 +1,3 @@
 pub mod NanPatterns
-pub mod Signed
+pub mod Pairs
+pub mod Stored

@@ -1,4 +1,3 @@
 pub mod Fits
 pub mod Nans
 pub mod Patterns
-pub mod Signed

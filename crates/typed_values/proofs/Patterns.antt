@@ -1,22 +1,18 @@
 -- Floats as patterns: each has one below 2 to its format's bits, and what is read from that pattern has it again.
-use mathlib.Core.Bool.{Bool, true, false, not, cond}
+use mathlib.Core.Bool.{Bool, true, false, not, cond, true≢false}
 use mathlib.Core.Path.{◌≡◌, refl, sym, ap, subst}
 use Prim.Native.Nat.{◌*◌, ◌<◌}
-use lib.Ieee.Compare.{differs_from_itself}
 use lib.Ieee.Bits.{of_bits-to_bits, to_bits-lt, to_bits-of_bits}
 use lib.Dec.{T, lit<}
-use lib.Ieee.{Float, Format, binary32, binary64, nan, inf, fin, fits, is_nan, ne, top, of_bits, to_bits}
+use lib.Ieee.{Float, Format, binary32, binary64, nan, inf, fin, fits, is_nan, top, of_bits, to_bits}
 use Rattle.typed_values.specs.Bits.{float_bits}
 
--- a float that does not differ from itself is no NaN
-pub no_nan : (x : Float) → ne x x ≡ false → T (not (is_nan x))
-unfolding is_nan ne
-no_nan nan e = subst T e tt
-no_nan (inf s) e = tt
-no_nan (fin s m x) e = tt
-
-pub nan_bits : (f : Format) (x : Float) → ne x x ≡ true → float_bits f nan ≡ float_bits f x
-nan_bits f x e = ap (float_bits f) (sym (differs_from_itself x (subst T (sym e) tt)))
+-- the quiet NaN's pattern stands for each NaN
+pub nan_bits : (f : Format) (x : Float) → true ≡ is_nan x → float_bits f nan ≡ float_bits f x
+unfolding is_nan
+nan_bits f nan e = refl
+nan_bits f (inf s) e = absurd (true≢false e)
+nan_bits f (fin s m k) e = absurd (true≢false e)
 
 pub own_bits : (f : Format) (x : Float) → fits f x ≡ true → to_bits f x ≡ float_bits f x
 own_bits f x e = sym (ap (λ (t : Bool). cond t (to_bits f x) 0) e)

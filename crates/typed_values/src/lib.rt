@@ -1,52 +1,86 @@
-// The pattern of a typed value.
+// The numbers of the typed calls: the kind that each is of, and the pattern of a value.
 #![tactic(auto)]
 
-ghost use Rattle.std.specs.Prelude.{◌≡◌};
+ghost use Rattle.std.specs.Prelude.{◌≡◌, ℕ};
 ghost use Rattle.typed_values.specs.Bits.{f64_bits, f32_bits, i64_bits, i32_bits, u8_bits};
 
-// The pattern of an f64. The language gives a NaN no bits: each stands as the quiet NaN.
-pub fn bits_f64(x: f64) -> u64
-    ensures { result ≡ f64_bits x }
-{
-    if x != x {
-        return 0x7ff8_0000_0000_0000;
-    }
-    f64::to_bits(x)
+// A number of a typed call: the code of its kind, and the pattern of a value in as many lowest bits as the kind has.
+pub trait Number: Copy {
+    ghost CODE: { ℕ };
+
+    ghost pattern: { Self → ℕ };
+
+    const CODE: u8;
+
+    // The pattern of a value.
+    fn pattern(self) -> u64
+        ensures { result ≡ pattern self };
 }
 
-// The pattern of an f32, likewise.
-pub fn bits_f32(x: f32) -> u64
-    ensures { result ≡ f32_bits x }
-{
-    if x != x {
-        return 0x7fc0_0000;
+impl Number for f64 {
+    ghost CODE = { 9 };
+
+    ghost pattern = { f64_bits };
+
+    const CODE: u8 = 9;
+
+    // The language gives a NaN no bits: each stands as the quiet NaN.
+    fn pattern(self) -> u64 {
+        if self.is_nan() {
+            return 0x7ff8_0000_0000_0000;
+        }
+        f64::to_bits(self)
     }
-    f32::to_bits(x) as u64
 }
 
-// The 64 bits of a signed number, two's complement.
-pub fn bits_i64(z: i64) -> u64
-    ensures { result ≡ i64_bits z }
-{
-    if z < 0 {
-        return 0xffff_ffff_ffff_ffff - ((-1 - z) as u64);
+impl Number for f32 {
+    ghost CODE = { 8 };
+
+    ghost pattern = { f32_bits };
+
+    const CODE: u8 = 8;
+
+    // A NaN, likewise.
+    fn pattern(self) -> u64 {
+        if self.is_nan() {
+            return 0x7fc0_0000;
+        }
+        u64::from(f32::to_bits(self))
     }
-    z as u64
 }
 
-// The 32 bits of a signed number, two's complement.
-pub fn bits_i32(z: i32) -> u64
-    ensures { result ≡ i32_bits z }
-{
-    if z < 0 {
-        return 0xffff_ffff - ((-1 - z) as u64);
+impl Number for i64 {
+    ghost CODE = { 3 };
+
+    ghost pattern = { i64_bits };
+
+    const CODE: u8 = 3;
+
+    fn pattern(self) -> u64 {
+        i64::cast_unsigned(self)
     }
-    z as u64
 }
 
-// The eight bits of a u8.
-pub fn bits_u8(x: u8) -> u64
-    ensures { result ≡ u8_bits x }
-{
-    x as u64
+impl Number for i32 {
+    ghost CODE = { 2 };
+
+    ghost pattern = { i32_bits };
+
+    const CODE: u8 = 2;
+
+    fn pattern(self) -> u64 {
+        u64::from(i32::cast_unsigned(self))
+    }
+}
+
+impl Number for u8 {
+    ghost CODE = { 4 };
+
+    ghost pattern = { u8_bits };
+
+    const CODE: u8 = 4;
+
+    fn pattern(self) -> u64 {
+        u64::from(self)
+    }
 }

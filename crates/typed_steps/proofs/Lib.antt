@@ -1,2 +1,0 @@
-pub mod Formats
-pub mod Steps
