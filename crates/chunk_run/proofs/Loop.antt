@@ -23,7 +23,7 @@ use Rattle.replies.specs.Reply.{reply_of}
 use Rattle.chunk_run.specs.Run.{RunReady, Ran, outcomes}
 use Rattle.cast_spec.specs.Fit.{fit_of}
 use Rattle.cast_spec.specs.Chunk.{answer_from, answer_next, bytes_from, converted_of, counts_below, Refuses}
-use Rattle.bytes_le.specs.Bytes.{Place, pattern_at, to_le, put}
+use Rattle.bytes_le.specs.Bytes.{from_le, Place, pattern_at, to_le, put}
 use Rattle.bytes_le.proofs.Sums.{length-to_le}
 use Rattle.bytes_le.proofs.Widths.{element_within}
 use Rattle.cast_spec.proofs.Outcomes.{stored_pattern}
@@ -51,17 +51,21 @@ module _ (S : E.Settings) (sw dw : ℕ) (src dst₀ : List ℕ) (n : ℕ) where
   abbrev pub final_bytes : List ℕ
   final_bytes = bytes_from (outcomes S sw src) dw 0 n dst₀
 
-  -- before the position i, where the destination is dst; the tally t lacks the last element before i, which counts at the place k
-  pub record At (i : ℕ) (dst t : List ℕ) (k : ℕ) : Type 0 where
+  -- before the position i, at the places x of the source and y of the destination dst; the tally t lacks the last element before i, which counts at the place k
+  pub record At (i x y : ℕ) (dst t : List ℕ) (k : ℕ) : Type 0 where
     pub order : i ≤ n
+    pub source : x ≡ i * sw
+    pub target : y ≡ i * dw
     pub same : length dst ≡ length dst₀
     pub countable : CountableAt k t
     pub counts : counts_in (one_more_at k t) ≡ counts_below (outcomes S sw src) i
     pub run : Run (outcomes S sw src) dw n final_answer final_bytes i dst
 
-  pub starts : (t : List ℕ) → t ≡ no_tally → At 0 dst₀ t 5
+  pub starts : (t : List ℕ) → t ≡ no_tally → At 0 0 0 dst₀ t 5
   starts t none = record {
     order = omega arith;
+    source = sym (zero-mul sw);
+    target = sym (zero-mul dw);
     same = refl;
     countable = subst (CountableAt 5) (sym none) (record { six = refl; place = omega arith; room = omega arith });
     counts = ap (λ (z : List ℕ). counts_in (one_more_at 5 z)) none;
@@ -72,7 +76,7 @@ module _ (S : E.Settings) (sw dw : ℕ) (src dst₀ : List ℕ) (n : ℕ) where
   }
 
   -- t' is the tally with that element
-  module _ (i : ℕ) (dst t : List ℕ) (k : ℕ) (at : At i dst t k) (t' : List ℕ) (all : t' ≡ one_more_at k t) where
+  module _ (i x y : ℕ) (dst t : List ℕ) (k : ℕ) (at : At i x y dst t k) (t' : List ℕ) (all : t' ≡ one_more_at k t) where
     counted_below : counts_in t' ≡ counts_below (outcomes S sw src) i
     counted_below = ap counts_in all ∙ at.counts
 
@@ -87,34 +91,43 @@ module _ (S : E.Settings) (sw dw : ℕ) (src dst₀ : List ℕ) (n : ℕ) where
         subst (λ (q : Reply). Ran S sw dw src dst₀ n q dst) (sym is) (record { answer = d.0; counts = counts_of_lem (Ok tt) (sym e); bytes = d.1 })
 
     -- the element at i has the fit r
-    module _ (more : i < n) where
+    -- the element at i has the fit r
+    module _ (more : i < n) (r : Fit) (is_fit : r ≡ fit_of (outcome_of S (from_le (take sw (drop x src))))) where
+      pub fit_is : r ≡ fit_of (outcomes S sw src i)
+      fit_is = is_fit ∙ ap (λ (z : ℕ). fit_of (outcome_of S (from_le (take sw (drop z src))))) at.source
+
       pub stops : Refuses (outcomes S sw src i) → (a : Answer) → a ≡ answer_next (outcomes S sw src i) i (Ok tt) → (q : Reply) → q ≡ reply_of a (counts_in t') → Ran S sw dw src dst₀ n q dst
       stops f a e q is =
           let g = runs.refused o dw n final_answer final_bytes i dst at.run more f in
           subst (λ (q : Reply). Ran S sw dw src dst₀ n q dst) (sym is) (record { answer = e ∙ sym g.0; counts = counts_of_lem a (ap (converted_of n) e ∙ refused_converted n i (outcomes S sw src i) f); bytes = g.1 })
 
     -- b is put at its place
-    module _ (more : i < n) (room : n * dw ≤ length dst₀) (s : Stored) (e : Ok s ≡ fit_of (outcomes S sw src i)) (dst' : List ℕ) (stored : dst' ≡ put dst (i * dw) dw s.pattern) where
+    module _ (more : i < n) (room : n * dw ≤ length dst₀) (s : Stored) (e : Ok s ≡ fit_of (outcome_of S (from_le (take sw (drop x src))))) (dst' : List ℕ) (stored : dst' ≡ put dst y dw s.pattern) where
       within : i * dw + dw ≤ length dst
       within = subst (λ (z : ℕ). i * dw + dw ≤ z) (sym at.same) (element_within dw n i room more)
 
       stored_at : dst' ≡ take (i * dw) dst ++ (to_le dw s.pattern ++ drop dw (drop (i * dw) dst))
-      stored_at = stored ∙ ap (λ (l : List ℕ). take (i * dw) dst ++ (to_le dw s.pattern ++ l)) (sym (drop-drop dw (i * dw) dst))
+      stored_at = stored ∙ ap (λ (z : ℕ). put dst z dw s.pattern) at.target ∙ ap (λ (l : List ℕ). take (i * dw) dst ++ (to_le dw s.pattern ++ l)) (sym (drop-drop dw (i * dw) dst))
 
       same_after : length dst' ≡ length dst
       same_after = ap length stored_at ∙ simp (length-append, length-take, length-to_le, length-drop) (omega (arith, within))
 
-      pub goes_on : n < 2 ^ 64 → (k' : ℕ) → k' ≡ place_of s.fared → At (i + 1) dst' t' k'
+      pub goes_on : n < 2 ^ 64 → (k' : ℕ) → k' ≡ place_of s.fared → At (i + 1) (x + sw) (y + dw) dst' t' k'
       goes_on few k' placed = record {
         order = omega arith;
+        source = ap (λ (z : ℕ). z + sw) at.source ∙ next i sw;
+        target = ap (λ (z : ℕ). z + dw) at.target ∙ next i dw;
         same = same_after ∙ at.same;
         countable = subst (λ (z : ℕ). CountableAt z t') (sym placed) (tallies.countable_at s.fared t' six room_after);
         counts = ap (λ (z : ℕ). counts_in (one_more_at z t')) placed ∙ tallies.one_more s.fared t' six ∙ ap (counted s.fared) counted_below ∙ one_more o i s.pattern s.fared is ∙ ap (counts_below o) (sym (add-one i));
         run = rw add-one (runs.kept o dw n final_answer final_bytes i dst at.run more s.pattern s.fared dst' is within stored_at);
       }
         where
+          next : (i w : ℕ) → i * w + w ≡ (i + 1) * w
+          next i w = omega arith
+
           is : outcomes S sw src i ≡ stored_as s.pattern s.fared
-          is = stored_pattern (outcomes S sw src i) s.pattern s.fared (sym e)
+          is = stored_pattern (outcomes S sw src i) s.pattern s.fared (sym (fit_is more (Ok s) e))
 
           six : length t' ≡ 6
           six = ap length all ∙ length-set t k _ ∙ at.countable.six
@@ -124,19 +137,19 @@ module _ (S : E.Settings) (sw dw : ℕ) (src dst₀ : List ℕ) (n : ℕ) where
           room_after = subst (λ (z : Counts). count_of s.fared z + 1 < 2 ^ 64) (sym counted_below) (omega (arith, count_le o s.fared i))
 
 -- ---- what a turn asks, and that the places stay in the slices
-module _ (s : Settings) (keys targets src dst₀ : List ℕ) (n : ℕ) (ask : RunReady s keys targets src dst₀ n) (i : ℕ) (dst t : List ℕ) (k : ℕ) (at : At (settings_for s keys targets) s.sw s.dw src dst₀ n i dst t k) (more : i < n) where
-  pub source_end : i * s.sw + s.sw ≤ length src
-  source_end = element_within s.sw n i ask.source more
+module _ (s : Settings) (keys targets src dst₀ : List ℕ) (n : ℕ) (ask : RunReady s keys targets src dst₀ n) (i x y : ℕ) (dst t : List ℕ) (k : ℕ) (at : At (settings_for s keys targets) s.sw s.dw src dst₀ n i x y dst t k) (more : i < n) where
+  pub source_end : x + s.sw ≤ length src
+  source_end = subst (λ (z : ℕ). z + s.sw ≤ length src) (sym at.source) (element_within s.sw n i ask.source more)
 
-  pub target_end : i * s.dw + s.dw ≤ length dst
-  target_end = subst (λ (z : ℕ). i * s.dw + s.dw ≤ z) (sym at.same) (element_within s.dw n i ask.target more)
+  pub target_end : y + s.dw ≤ length dst
+  target_end = subst (λ (z : ℕ). z + s.dw ≤ length dst) (sym at.target) (subst (λ (z : ℕ). i * s.dw + s.dw ≤ z) (sym at.same) (element_within s.dw n i ask.target more))
 
-  pub turn_asks : FitReady s keys targets src (i * s.sw)
+  pub turn_asks : FitReady s keys targets src x
   turn_asks = record { map = ask.map; within = source_end }
 
-  pub store_asks : Place dst (i * s.dw) s.dw
-  store_asks = target_place s ask.map.ready dst (i * s.dw) target_end
+  pub store_asks : Place dst y s.dw
+  store_asks = target_place s ask.map.ready dst y target_end
 
   -- the answer to a refusal here is that of its outcome
-  pub refused_answer_lem : (r : Fit) → r ≡ fit_of (outcomes (settings_for s keys targets) s.sw src i) → refused_answer s (pattern_at s.sw src i) i r ≡ answer_next (outcomes (settings_for s keys targets) s.sw src i) i (Ok tt)
-  refused_answer_lem r f = refused_is s ask.map.ready keys targets (pattern_at s.sw src i) i r f
+  pub refused_answer_lem : (r : Fit) → r ≡ fit_of (outcomes (settings_for s keys targets) s.sw src i) → refused_answer s (from_le (take s.sw (drop x src))) i r ≡ answer_next (outcomes (settings_for s keys targets) s.sw src i) i (Ok tt)
+  refused_answer_lem r f = ap (λ (z : ℕ). refused_answer s (from_le (take s.sw (drop z src))) i r) at.source ∙ refused_is s ask.map.ready keys targets (pattern_at s.sw src i) i r f

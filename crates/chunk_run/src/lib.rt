@@ -16,11 +16,11 @@ pub fn run(src: &[u8], dst: &mut [u8], keys: &[u8], targets: &[u8], s: Settings,
 {
     let sw = s.sw;
     let dw = s.dw;
+    let mut input = 0;
+    let mut output = 0;
     let mut tally = tallies::no_tally();
     let mut last = tallies::NO_ELEMENT;
     for i in 0..n {
-        let input = i * sw;
-        let output = i * dw;
         tallies::count_at(&mut tally, last);
         let fit = chunk_element::fit_at(src, keys, targets, s, input);
         let Ok(stored) = fit else {
@@ -28,6 +28,8 @@ pub fn run(src: &[u8], dst: &mut [u8], keys: &[u8], targets: &[u8], s: Settings,
         };
         store_le::write_le(dst, output, dw, stored.pattern);
         last = tallies::place(stored.fared);
+        input += sw;
+        output += dw;
     }
     tallies::count_at(&mut tally, last);
     replies::reply(Ok(()), tally)

@@ -16,7 +16,7 @@ overflow_add-changed c =
     let a = c.args in
     let l = c.loop-i in
     let S = settings_for a.s a.keys.now a.targets.now in
-    let within : l.i * a.s.dw + a.s.dw ≤ length a.dst.now = subst (λ (n : ℕ). l.i * a.s.dw + a.s.dw ≤ n) l.invariant.at.same (target_end a.s a.keys.now a.targets.now a.src.now a.dst.now a.n c.requires l.i l.invariant.copy l.tally l.last l.invariant.at c.loop-i-test.true) in
+    let within : l.i * a.s.dw + a.s.dw ≤ length a.dst.now = subst (λ (n : ℕ). l.i * a.s.dw + a.s.dw ≤ n) l.invariant.at.same (target_end a.s a.keys.now a.targets.now a.src.now a.dst.now a.n c.requires l.i (l.i * a.s.sw) (l.i * a.s.dw) l.invariant.copy l.tally l.last l.invariant.at c.loop-i-test.true) in
     let done = at_most_done S a.s.sw a.s.dw a.src.now a.dst.now a.n l.i l.changed l.tally l.last l.invariant in
     record { fits = omega (arith, c.distance_le-changed.ensures, at_most_width a.dst.now (l.i * a.s.dw) a.s.dw c.in-Ok.stored.pattern within, done, within) }
 
@@ -28,7 +28,7 @@ returns-in_default c =
     let S = settings_for a.s a.keys.now a.targets.now in
     stops S a.s.sw a.s.dw a.src.now a.dst.now a.n l.i l.changed l.tally l.last l.invariant c.count_at.new.tally c.count_at.ensures c.loop-i-test.true
     (unstored (outcomes S a.s.sw a.src.now l.i) u.result u.ensures c.in_default.not-Ok) c.refused_at.result
-    (c.refused_at.ensures ∙ refused_answer_lem a.s a.keys.now a.targets.now a.src.now a.dst.now a.n c.requires l.i l.invariant.copy l.tally l.last l.invariant.at c.loop-i-test.true u.result u.ensures)
+    (c.refused_at.ensures ∙ refused_answer_lem a.s a.keys.now a.targets.now a.src.now a.dst.now a.n c.requires l.i (l.i * a.s.sw) (l.i * a.s.dw) l.invariant.copy l.tally l.last l.invariant.at c.loop-i-test.true u.result u.ensures)
     c.reply.result c.reply.ensures
 
 pub loop-i-preserved : goal.loop-i-preserved
@@ -36,7 +36,7 @@ loop-i-preserved c =
     let a = c.args in
     let l = c.loop-i in
     let f = c.in-Ok in
-    let within : l.i * a.s.dw + a.s.dw ≤ length a.dst.now = subst (λ (n : ℕ). l.i * a.s.dw + a.s.dw ≤ n) l.invariant.at.same (target_end a.s a.keys.now a.targets.now a.src.now a.dst.now a.n c.requires l.i l.invariant.copy l.tally l.last l.invariant.at c.loop-i-test.true) in
+    let within : l.i * a.s.dw + a.s.dw ≤ length a.dst.now = subst (λ (n : ℕ). l.i * a.s.dw + a.s.dw ≤ n) l.invariant.at.same (target_end a.s a.keys.now a.targets.now a.src.now a.dst.now a.n c.requires l.i (l.i * a.s.sw) (l.i * a.s.dw) l.invariant.copy l.tally l.last l.invariant.at c.loop-i-test.true) in
     goes_on (settings_for a.s a.keys.now a.targets.now) a.s.sw a.s.dw a.src.now a.dst.now a.n l.i l.changed l.tally l.last l.invariant c.count_at.new.tally c.count_at.ensures c.loop-i-test.true c.requires.target f.stored f.ensures (omega arith) within c.distance_le-changed.result c.distance_le-changed.ensures c.place-last.result c.place-last.ensures
 
 pub returns : goal.returns
