@@ -10,6 +10,7 @@ ghost use Rattle.float_fields.specs.Formats.{f16_format, f32_format, f64_format,
 use crate::{Parts, Widened};
 
 // The lowest bits, so many of them, all ones.
+#[inline(always)]
 fn mask(bits: u32) -> u64
     requires { bits < 64 }
     ensures { result ≡ 2 ^ bits - 1 }
@@ -46,6 +47,7 @@ pub trait FloatBits: Copy {
     ghost format: { Format PRECISION EXPONENT_BITS SPACING };
 
     // The three fields.
+    #[inline(always)]
     final fn parts(self) -> Parts
         ensures { result ≡ parts_of PRECISION EXPONENT_BITS (pattern self) }
     {
@@ -75,6 +77,7 @@ impl FloatBits for u16 {
 
     ghost pattern = { λ b. b };
 
+    #[inline(always)]
     fn to_u64(self) -> u64 {
         u64::from(self)
     }
@@ -101,6 +104,7 @@ impl FloatBits for u32 {
 
     ghost pattern = { λ b. b };
 
+    #[inline(always)]
     fn to_u64(self) -> u64 {
         self as u64
     }
@@ -127,6 +131,7 @@ impl FloatBits for u64 {
 
     ghost pattern = { λ b. b };
 
+    #[inline(always)]
     fn to_u64(self) -> u64 {
         self
     }
@@ -147,6 +152,7 @@ pub trait NarrowerBits: FloatBits {
     ghost widens: { Widens Self.PRECISION Self.EXPONENT_BITS Self.SPACING };
 
     // The fields as those of an f32.
+    #[inline(always)]
     final fn widen(self) -> Widened
         ensures { result ≡ widened_of Self.PRECISION Self.EXPONENT_BITS Self.SPACING (Self.pattern self) }
     {

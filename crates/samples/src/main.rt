@@ -8,47 +8,30 @@ use answers::Reply;
 use counts::Counts;
 use std::io;
 
-// A number in hexadecimal, of at least so many digits.
-fn print_hex(rt: &impl Print, x: u64, width: usize) -> io::Result<()> {
-    print!(rt; "{x:0width$x}")
-}
-
-fn wide(x: u8) -> u64 {
-    x as u64
-}
-
 // The bytes of a destination, in their order.
 fn print_bytes(rt: &impl Print, d: &[u8]) -> io::Result<()> {
-    for i in 0..d.len() {
-        print_hex(rt, wide(d[i]), 2)?;
+    for byte in d {
+        print!(rt; "{byte:02x}")?;
     }
     Ok(())
 }
 
-fn print_count(rt: &impl Print, n: usize) -> io::Result<()> {
-    rt.write_all(b" ")?;
-    rt.print(n as u64)
-}
-
 fn print_counts(rt: &impl Print, c: Counts) -> io::Result<()> {
-    print_count(rt, c.mapped)?;
-    print_count(rt, c.exact)?;
-    print_count(rt, c.rounded)?;
-    print_count(rt, c.clamped)?;
-    print_count(rt, c.wrapped)?;
-    rt.write_all(b"\n")
+    println!(rt;
+        " {} {} {} {} {}",
+        c.mapped, c.exact, c.rounded, c.clamped, c.wrapped
+    )
 }
 
 fn print_reply(rt: &impl Print, r: Reply, d: &[u8]) -> io::Result<()> {
     let a = r.answer;
     let c = r.counts;
     let number = answer_numbers::number(a);
-    rt.print(wide(number))?;
-    if answer_numbers::names_position(number as usize) {
-        rt.write_all(b" at ")?;
-        rt.print(answer_numbers::position(a) as u64)?;
+    print!(rt; "{number}")?;
+    if answer_numbers::names_position(usize::from(number)) {
+        print!(rt; " at {}", answer_numbers::position(a))?;
     }
-    rt.write_all(b": ")?;
+    print!(rt; ": ")?;
     print_bytes(rt, d)?;
     print_counts(rt, c)
 }
