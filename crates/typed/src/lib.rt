@@ -6,7 +6,7 @@ ghost use Rattle.typed_entries.specs.Entries.{entry_of};
 ghost use Rattle.typed.specs.Checks.{check_of};
 ghost use Rattle.typed.specs.Typed.{TypedContract};
 
-use answers::{Answer, Outcome, Reply};
+use answers::{Answer, Fit, Reply};
 use typed_casts::{CastTo, Modes};
 use typed_entries::MapEntry;
 use typed_patterns::FromPattern;
@@ -46,8 +46,9 @@ pub fn convert<S: CastTo<T>, T: FromPattern, E: MapEntry<S, T>>(
     };
     let mut tally = tallies::no_tally();
     for (i, x) in src.iter().enumerate() {
-        let outcome = x.cast(typed_entries::lookup(entries, *x), modes);
-        let Outcome::Stored { pattern, fared } = outcome else {
+        let fit = x.cast(typed_entries::lookup(entries, *x), modes);
+        let Fit::Pattern { pattern, fared } = fit else {
+            let outcome = typed_casts::outcome::<S, T>(*x, fit);
             return replies::reply(refusals::refusal(i, outcome), tally);
         };
         tallies::count(&mut tally, fared);

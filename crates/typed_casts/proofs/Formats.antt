@@ -8,17 +8,10 @@ use Rattle.patterns.specs.Kind.{f32, f64}
 use Rattle.floats.specs.declared.Float.{Float}
 use Rattle.floats.specs.Form.{CanonicalClass, float_of}
 use Rattle.floats.proofs.Values.{f32_formed, f64_formed, read_canonical}
-use Rattle.kinds.proofs.Constants.{F32, F64, f32_row, f64_row}
+use Rattle.kinds.proofs.Constants.{F32, F64, u8_row, i32_row, f32_row, f64_row}
 use Rattle.integers.specs.Magnitude.{IntegerPattern}
 use Rattle.typed_values.specs.Bits.{f64_bits, f32_bits, i64_bits}
 use Rattle.typed_values.proofs.Fits.{f64_fits, f32_fits, i64_fits}
-use Rattle.element.specs.Element.{FloatPattern}
-
-pub f32_pattern : (x : ℕ) → x < 2 ^ 32 → FloatPattern x F32
-f32_pattern x h = record { row = f32_row; fits = h }
-
-pub f64_pattern : (x : ℕ) → x < 2 ^ 64 → FloatPattern x F64
-f64_pattern x h = record { row = f64_row; fits = h }
 
 pub i64_pattern : (x : ℕ) → x < 2 ^ 64 → IntegerPattern x 64
 i64_pattern x h = record { positive = lit< tt; at_most_64 = lit≤ tt; fits = h }
@@ -37,3 +30,5 @@ f32_below b x e = subst (λ (n : ℕ). n < 2 ^ 32) (sym e) (f32_fits x)
 
 pub i64_below : (b : ℕ) (x : ℤ) → b ≡ i64_bits x → b < 2 ^ 64
 i64_below b x e = subst (λ (n : ℕ). n < 2 ^ 64) (sym e) (i64_fits x)
+
+pub ruleset formats = (f64_canonical, f32_canonical, i64_pattern, f32_below, u8_row, i32_row, f32_row)
