@@ -17,9 +17,10 @@ pub outcome-requires : goal.outcome-requires
 outcome-requires g c =
     let s = c.row_of-source in
     let t = c.row_of-target in
-    let laws = g.met.S.CastTo.laws in
-    (pattern_of_row _ _ c.CODE.ensures s.result s.ensures laws.from_listed c.pattern.result (subst (λ (n : ℕ). n < 2 ^ bits (kind_of g.S.Number.CODE)) (sym c.pattern.ensures) (laws.source_fits c.args.x)),
-    listed_row _ _ c.CODE-2.ensures t.result t.ensures laws.to_listed)
+    let laws = g.met.S.CastTo.laws in (
+      pattern_of_row _ _ c.CODE.ensures s.result s.ensures laws.from_listed c.pattern.result (subst (λ (n : ℕ). n < 2 ^ bits (kind_of g.S.Number.CODE)) (sym c.pattern.ensures) (laws.source_fits c.args.x)),
+      listed_row _ _ c.CODE-2.ensures t.result t.ensures laws.to_listed,
+    )
 
 pub returns : goal.returns
 returns g c =
