@@ -1,4 +1,4 @@
-// One element of a typed call, as what it comes to in the target's kind.
+// One element of a typed call: its conversion to the target, and what it comes to.
 #![tactic(auto, using(crate::proofs::Formats::formats))]
 
 ghost use Rattle.std.specs.Prelude.{◌≡◌};
