@@ -28,8 +28,8 @@ fn print_reply(rt: &impl Print, r: Reply, d: &[u8]) -> io::Result<()> {
     let c = r.counts;
     let number = answer_numbers::number(a);
     print!(rt; "{number}")?;
-    if answer_numbers::names_position(usize::from(number)) {
-        print!(rt; " at {}", answer_numbers::position(a))?;
+    if let Some(position) = answer_numbers::position(a) {
+        print!(rt; " at {position}")?;
     }
     print!(rt; ": ")?;
     print_bytes(rt, d)?;

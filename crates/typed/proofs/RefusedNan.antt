@@ -80,7 +80,7 @@ module _ (S : Settings) (b v : ℕ) where
 -- ---- an outcome of the number 5 has the value that the answer has
 of_number_5 : (i v : ℕ) (x : Outcome) → outcome_number x ≡ 5 → element_values i v 0 0 ≡ outcome_values i x → x ≡ Err (NanOrInf v)
 of_number_5 i v (Ok s) n e = absurd (omega arith)
-of_number_5 i v (Err (NanOrInf u)) n e = ap Err (NanOrInf (sym (ap (λ (a : Values). a.value) e)))
+of_number_5 i v (Err (NanOrInf u)) n e = ap (λ (z : ℕ). Err (NanOrInf z)) (sym (ap (λ (a : Values). a.value) e))
 of_number_5 i v (Err (OutOfRange u lo hi)) n e = absurd (omega arith)
 of_number_5 i v (Err (FloatOutOfRange u lo hi)) n e = absurd (omega arith)
 

@@ -22,6 +22,7 @@ use Rattle.counts.specs.declared.Fared.{Fared}
 use Rattle.answers.specs.declared.Reply.{Reply}
 use Rattle.kinds.specs.Table.{kind_of}
 use Rattle.codes.specs.Codes.{rounding_of, range_of, wrap_barred}
+use Rattle.answers.specs.declared.Refusal.{Refusal}
 use Rattle.answers.specs.declared.Refusal.TheVariants as A
 use Rattle.cast_spec.specs.Contract.{Contract}
 use Rattle.cast_spec.proofs.Steps.{no_map}
@@ -33,12 +34,17 @@ use Rattle.cast_spec.proofs.Runs.{Run, done, refused, kept, one_more, count_le, 
 use Rattle.cast_spec.specs.Element.{Entry, Settings, lookup_of, found_or, outcome_of}
 use Rattle.cast_spec.specs.Chunk.{Inputs, settings_of, codes_listed, map_whole, bytes_whole, call_of, outcome_at, answer_next, answer_from, answer_of, bytes_from, destination_of, converted_of, counts_below, counts_of, entries_from, Refuses}
 use Rattle.answers.specs.Answer.{unconverted}
-use Rattle.typed_casts.specs.Cast.{cast_of}
+use Rattle.patterns.specs.Pattern.{as_f64}
+use Rattle.cast_spec.specs.Fit.{unmapped, fit_of, filled}
+use Rattle.cast_spec.proofs.Outcomes.{stored_pattern}
+use Rattle.cast_spec.proofs.Filled.{outcome_filled}
+use Rattle.steps.specs.Steps.{stepped}
+use Rattle.steps.proofs.Found.{found_outcome}
 use Rattle.typed_casts.specs.declared.Modes.{Modes}
 use Rattle.typed.specs.Checks.{check_of}
 use Rattle.typed.specs.Typed.{bytes_of, typed_inputs}
 use Rattle.typed.proofs.Places.{map_set, mapped_at, mapped_below, entry_below, length_bytes, pattern_at_lem, set_bytes, entries_back}
-use Rattle.answers.specs.Outcome.{Answer, Outcome, stored_as}
+use Rattle.answers.specs.Outcome.{Answer, Fit, Outcome, fit_as, stored_as}
 use Rattle.answers.specs.declared.ElementRefusal.TheVariants.{FloatOutOfRange, NanOrInf, OutOfRange}
 use Rattle.std.specs.Prelude.{Err, Ok, Option}
 
@@ -98,8 +104,12 @@ module _ {X Y Z : Type 0} (P : Elements X Y Z) (xs : List X) (ys : List Z) (roun
   abbrev modes : Modes
   modes = record { rounding = rounding_of rounding; range = range_of range }
 
+  -- what an element of the pattern x comes to for which the map gives f
+  abbrev cast_of : Modes → Option ℕ → ℕ → Outcome
+  cast_of m f x = found_or f (unmapped (kind_of from) (kind_of to) m.rounding m.range x)
+
   -- what the program has of an element is what its steps come to
-  outcome_is : (x : ℕ) (f : Option ℕ) → f ≡ lookup_of (kind_of from) (value_of (kind_of from) x) es → cast_of from to modes f x ≡ outcome_of S x
+  outcome_is : (x : ℕ) (f : Option ℕ) → f ≡ lookup_of (kind_of from) (value_of (kind_of from) x) es → cast_of modes f x ≡ outcome_of S x
   unfolding outcome_of
   outcome_is x f e = ap₂ found_or e (no_map (kind_of from) (kind_of to) modes.rounding modes.range es x (kind_of to) (value_of (kind_of from) x))
 
@@ -199,22 +209,26 @@ module _ {X Y Z : Type 0} (P : Elements X Y Z) (xs : List X) (ys : List Z) (roun
     long_source : length ps ≡ length xs
     long_source = length-map xs P.source_bits
 
-    abbrev checks : Bool → Bool → Bool → Result Modes Answer
+    abbrev checks : Bool → Bool → Bool → Result Modes Refusal
     checks t b u = cond t (cond b (Err A.BarredWrap) (cond u (Ok modes) (Err (A.LengthMismatch (length xs) (length ds))))) (Err A.UnknownCode)
 
-    pub refuses_call : (a : Answer) (code : ℕ) → code ≡ to → Err a ≡ check_of (length xs) (length ds) code rounding range → (r : Reply) → r ≡ unconverted a → Contract In r (bytes ds)
-    refuses_call a code is h r e = subst (λ (r : Reply). Contract In r (bytes ds)) (sym e) (refused_meets In a (by_tests (ltb rounding 5 && ltb range 3) refl (wrap_barred to range) refl (eqb (length xs) (length ds)) refl (h ∙ ap (λ (n : ℕ). check_of (length xs) (length ds) n rounding range) is)))
+    pub refuses_call : (q : Refusal) (code : ℕ) → code ≡ to → Err q ≡ check_of (length xs) (length ds) code rounding range → (r : Reply) → r ≡ unconverted (Err q) → Contract In r (bytes ds)
+    refuses_call q code is h r e = subst (λ (r : Reply). Contract In r (bytes ds)) (sym e) (refused_meets In (Err q) (by_tests (ltb rounding 5 && ltb range 3) refl (wrap_barred to range) refl (eqb (length xs) (length ds)) refl (h ∙ ap (λ (n : ℕ). check_of (length xs) (length ds) n rounding range) is)))
       where
-        by_tests : (t : Bool) → ltb rounding 5 && ltb range 3 ≡ t → (b : Bool) → wrap_barred to range ≡ b → (u : Bool) → eqb (length xs) (length ds) ≡ u → Err a ≡ checks t b u → RefusedBy In a
-        by_tests false e b g u f h = let k : a ≡ Err A.UnknownCode = cc in subst (RefusedBy In) (sym k) (unknown In (codes_are (map of ds) ∙ e))
-        by_tests true e true g u f h = let k : a ≡ Err A.BarredWrap = cc in subst (RefusedBy In) (sym k) (barred_wrap In (codes_are (map of ds) ∙ e) (ap not g))
+        by : (p : Refusal) → q ≡ p → RefusedBy In (Err p) → RefusedBy In (Err q)
+        by p k = subst (λ (z : Refusal). RefusedBy In (Err z)) (sym k)
+
+        by_tests : (t : Bool) → ltb rounding 5 && ltb range 3 ≡ t → (b : Bool) → wrap_barred to range ≡ b → (u : Bool) → eqb (length xs) (length ds) ≡ u → Err q ≡ checks t b u → RefusedBy In (Err q)
+        by_tests false e b g u f h = let k : q ≡ A.UnknownCode = cc in by A.UnknownCode k (unknown In (codes_are (map of ds) ∙ e))
+        by_tests true e true g u f h = let k : q ≡ A.BarredWrap = cc in by A.BarredWrap k (barred_wrap In (codes_are (map of ds) ∙ e) (ap not g))
         by_tests true e false g true f h = let z : ◌≡◌ {A = ℕ} 0 1 = cc in absurd (omega arith)
         by_tests true e false g false f h =
-            let k : a ≡ Err (A.LengthMismatch (length xs) (length ds)) = cc in
             let n : length xs ≡ length ds → ⊥ = eqb-false (length xs) (length ds) f in
-            subst (RefusedBy In) (ap₂ Err (A.LengthMismatch ((source_whole (map of ds)).0 ∙ long_source) ((target_whole (map of ds)).0 ∙ long_map)) ∙ sym k)
+            let k : q ≡ A.LengthMismatch (length xs) (length ds) = cc in
+            by (A.LengthMismatch (length xs) (length ds)) k
+            (subst (RefusedBy In) (ap₂ (λ (s d : ℕ). Err (A.LengthMismatch s d)) ((source_whole (map of ds)).0 ∙ long_source) ((target_whole (map of ds)).0 ∙ long_map))
             (mismatch In (codes_are (map of ds) ∙ e) (ap not g) (map_is_whole (map of ds)) (bytes_are_whole (map of ds))
-            (λ h. n (sym ((source_whole (map of ds)).0 ∙ long_source) ∙ h ∙ (target_whole (map of ds)).0 ∙ long_map)))
+            (λ h. n (sym ((source_whole (map of ds)).0 ∙ long_source) ∙ h ∙ (target_whole (map of ds)).0 ∙ long_map))))
 
     -- what the checks leave where they refuse nothing
     record Passed (m : Modes) : Type 0 where
@@ -260,40 +274,51 @@ module _ {X Y Z : Type 0} (P : Elements X Y Z) (xs : List X) (ys : List Z) (roun
         pub countable : length ds < 2 ^ 64 → Countable ts
         countable h = record { six = inv.six; room = λ f. let l : count_of f (counts_in ts) ≤ i = subst (λ (c : Counts). count_of f c ≤ i) (sym inv.counts) (count_le o f i) in omega (arith, pass.meet) }
 
-        -- the element's outcome, as the program has it of the element x
-        abbrev Comes : X → Option ℕ → Outcome → Type 0
-        Comes x f z = (x ≡ get_or xs i x) × (f ≡ lookup_of (kind_of from) (value_of (kind_of from) (P.source_bits x)) es) × (z ≡ cast_of from to m f (P.source_bits x))
+        -- the fit of the element x, as the program has it
+        abbrev Comes : X → Option ℕ → Fit → Type 0
+        Comes x f t = (x ≡ get_or xs i x) × (f ≡ lookup_of (kind_of from) (value_of (kind_of from) (P.source_bits x)) es) × (t ≡ stepped f (kind_of from) (kind_of to) m.rounding m.range (P.source_bits x))
 
-        -- a turn at an element of the outcome z: where it is stored, the next turn goes on from it, and where it is refused, the call ends there
-        pub record Turn (z : Outcome) : Type 0 where
-          pub goes_on : (b : ℕ) (how : Fared) → z ≡ stored_as b how → (y : Y) → y ≡ read b → (ts' : List ℕ) → Tallied how ts ts' → Inv In w (length ps) (i + 1) (bytes (set zs i y)) ts'
-          pub ends_there : ((b : ℕ) (how : Fared) → z ≡ stored_as b how → ⊥) → (a : Answer) → a ≡ answer_next z i (Ok tt) → (r : Reply) → r ≡ reply a ts → Contract In r (bytes zs)
+        -- a turn at the element x of the fit t: where it is stored, the next turn goes on from it, and where it is refused, the call ends there
+        pub record Turn (x : X) (t : Fit) : Type 0 where
+          pub goes_on : (b : ℕ) (how : Fared) → t ≡ fit_as b how → (y : Y) → y ≡ read b → (ts' : List ℕ) → Tallied how ts ts' → Inv In w (length ps) (i + 1) (bytes (set zs i y)) ts'
+          pub ends_there : ((b : ℕ) (how : Fared) → t ≡ fit_as b how → ⊥) → (z : Outcome) → z ≡ filled (kind_of to) (as_f64 (kind_of from) (P.source_bits x)) t → (a : Answer) → a ≡ answer_next z i (Ok tt)
+              → (r : Reply) → r ≡ reply a ts → Contract In r (bytes zs)
 
-        module _ (x : X) (f : Option ℕ) (z : Outcome) (comes : Comes x f z) where
-          own : outcome_of S (P.source_bits x) ≡ z
-          own = sym (comes.2 ∙ ap (λ (n : Modes). cast_of from to n f (P.source_bits x)) pass.modes_are ∙ outcome_is (P.source_bits x) f comes.1)
+        module _ (x : X) (f : Option ℕ) (t : Fit) (comes : Comes x f t) where
+          abbrev comes_to : Outcome
+          comes_to = cast_of m f (P.source_bits x)
 
-          outcome_at_i : z ≡ o i
+          own : outcome_of S (P.source_bits x) ≡ comes_to
+          own = sym (ap (λ (n : Modes). cast_of n f (P.source_bits x)) pass.modes_are ∙ outcome_is (P.source_bits x) f comes.1)
+
+          outcome_at_i : comes_to ≡ o i
           outcome_at_i = sym own ∙ ap (outcome_of S) (ap P.source_bits comes.0 ∙ mapped_at P.source_bits xs i x inside) ∙ sym (outcome_at_lem (map of ds) i below)
 
-          stores : (b : ℕ) (how : Fared) → z ≡ stored_as b how → (y : Y) → y ≡ read b → (ts' : List ℕ) → Tallied how ts ts' → Inv In w (length ps) (i + 1) (bytes (set zs i y)) ts'
-          stores b how e y r ts' t =
+          fit_is : t ≡ fit_of comes_to
+          fit_is = comes.2 ∙ found_outcome f (unmapped (kind_of from) (kind_of to) m.rounding m.range (P.source_bits x))
+
+          stores : (b : ℕ) (how : Fared) → t ≡ fit_as b how → (y : Y) → y ≡ read b → (ts' : List ℕ) → Tallied how ts ts' → Inv In w (length ps) (i + 1) (bytes (set zs i y)) ts'
+          stores b how e y r ts' tallied =
               let room : i * w + w ≤ length (bytes zs) = element_within w (length zs) i (le_of_eq (sym (length_bytes w (map of zs) ∙ ap (λ (n : ℕ). n * w) (length-map zs of)))) within in
-              let k : o i ≡ stored_as b how = sym outcome_at_i ∙ e in
+              let stored : comes_to ≡ stored_as b how = stored_pattern comes_to b how (sym fit_is ∙ e) in
+              let k : o i ≡ stored_as b how = sym outcome_at_i ∙ stored in
               record {
-                six = t.six;
+                six = tallied.six;
                 run = rw add-one (kept o w (length ps) R W i (bytes zs) inv.run below b how (bytes (set zs i y)) k room
                     (ap (bytes_of w) (map_set of zs i y) ∙ set_bytes w (map of zs) i (of y) (subst (λ (n : ℕ). i < n) (sym (length-map zs of)) within)
-                    ∙ ap (λ (t : List ℕ). take (i * w) (bytes zs) ++ (t ++ drop w (drop (i * w) (bytes zs)))) (ap (λ (u : Y). to_le w (of u)) r ∙ P.keeps ys rounding range x b how (own ∙ e))));
-                counts = t.counts ∙ ap (counted how) inv.counts ∙ rw add-one (one_more o i b how k);
+                    ∙ ap (λ (t : List ℕ). take (i * w) (bytes zs) ++ (t ++ drop w (drop (i * w) (bytes zs)))) (ap (λ (u : Y). to_le w (of u)) r ∙ P.keeps ys rounding range x b how (own ∙ stored))));
+                counts = tallied.counts ∙ ap (counted how) inv.counts ∙ rw add-one (one_more o i b how k);
               }
 
-          refuses : ((b : ℕ) (how : Fared) → z ≡ stored_as b how → ⊥) → (a : Answer) → a ≡ answer_next z i (Ok tt) → (r : Reply) → r ≡ reply a ts → Contract In r (bytes zs)
-          refuses n a e r says =
-              let h : Refuses z = refuses_of z n in
+          refuses : ((b : ℕ) (how : Fared) → t ≡ fit_as b how → ⊥) → (z : Outcome) → z ≡ filled (kind_of to) (as_f64 (kind_of from) (P.source_bits x)) t → (a : Answer) → a ≡ answer_next z i (Ok tt)
+              → (r : Reply) → r ≡ reply a ts → Contract In r (bytes zs)
+          refuses n z z_is a e r says =
+              let same : z ≡ comes_to = z_is ∙ ap (filled (kind_of to) (as_f64 (kind_of from) (P.source_bits x))) fit_is ∙ outcome_filled f (kind_of from) (kind_of to) m.rounding m.range (P.source_bits x) in
+              let h : Refuses comes_to = refuses_of comes_to (λ b how c. n b how (fit_is ∙ ap fit_of c)) in
               let g = refused o w (length ps) R W i (bytes zs) inv.run below (subst Refuses outcome_at_i h) in
-              let is : a ≡ R = e ∙ ap (λ (u : Outcome). answer_next u i (Ok tt)) outcome_at_i ∙ sym g.0 in
-              subst (λ (r : Reply). Contract In r (bytes zs)) (sym says) (contract In (reply a ts) (bytes zs) is (inv.counts ∙ counts_are i a is (ap (converted_of (call_of In).count) e ∙ refused_converted (call_of In).count i z h)) g.1)
+              let next : a ≡ answer_next comes_to i (Ok tt) = e ∙ ap (λ (u : Outcome). answer_next u i (Ok tt)) same in
+              let is : a ≡ R = next ∙ ap (λ (u : Outcome). answer_next u i (Ok tt)) outcome_at_i ∙ sym g.0 in
+              subst (λ (r : Reply). Contract In r (bytes zs)) (sym says) (contract In (reply a ts) (bytes zs) is (inv.counts ∙ counts_are i a is (ap (converted_of (call_of In).count) next ∙ refused_converted (call_of In).count i comes_to h)) g.1)
             where
               refuses_of : (u : Outcome) → ((b : ℕ) (how : Fared) → u ≡ stored_as b how → ⊥) → Refuses u
               refuses_of (Ok s) n = n s.pattern s.fared refl
@@ -301,5 +326,5 @@ module _ {X Y Z : Type 0} (P : Elements X Y Z) (xs : List X) (ys : List Z) (roun
               refuses_of (Err (OutOfRange v lo hi)) n = tt
               refuses_of (Err (FloatOutOfRange v lo hi)) n = tt
 
-          pub turns : Turn z
+          pub turns : Turn x t
           turns = record { goes_on = stores; ends_there = refuses }

@@ -46,8 +46,9 @@ pub fn convert<S: CastTo<T>, T: FromPattern, E: MapEntry<S, T>>(
     };
     let mut tally = tallies::no_tally();
     for (i, x) in src.iter().enumerate() {
-        let outcome = x.cast(typed_entries::lookup(entries, *x), modes);
-        let Ok(stored) = outcome else {
+        let fit = x.cast(typed_entries::lookup(entries, *x), modes);
+        let Ok(stored) = fit else {
+            let outcome = typed_casts::outcome::<S, T>(*x, fit);
             return replies::reply(refusals::refusal(i, outcome), tally);
         };
         tallies::count(&mut tally, stored.fared);

@@ -12,7 +12,6 @@ use Rattle.kinds.proofs.Constants.{F32, F64, u8_row, i32_row, f32_row, f64_row}
 use Rattle.integers.specs.Magnitude.{IntegerPattern}
 use Rattle.typed_values.specs.Bits.{f64_bits, f32_bits, i64_bits}
 use Rattle.typed_values.proofs.Fits.{f64_fits, f32_fits, i64_fits}
-use Rattle.element.specs.Element.{FloatPattern}
 
 pub i64_pattern : (x : ℕ) → x < 2 ^ 64 → IntegerPattern x 64
 i64_pattern x h = record { positive = lit< tt; at_most_64 = lit≤ tt; fits = h }

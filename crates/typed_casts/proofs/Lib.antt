@@ -1,2 +1,2 @@
-pub mod Casts
 pub mod Formats
+pub mod Rows

@@ -137,8 +137,6 @@ impl MapEntry<i64, f32> for EntryI64F32 {
 pub fn lookup<K: Key, T: Number, E: MapEntry<K, T>>(entries: &[E], x: K) -> Option<u64>
     ensures { result ≡ lookup_of (kind_of K.CODE) (value_of (kind_of K.CODE) (K.pattern x)) (map (entry_of K.pattern T.pattern E.key E.target) entries.now) }
 {
-    match entries.iter().find(|entry| x.matches(entry.key())) {
-        Some(entry) => Some(entry.target().pattern()),
-        None => None,
-    }
+    let entry = entries.iter().find(|entry| x.matches(entry.key()))?;
+    Some(entry.target().pattern())
 }

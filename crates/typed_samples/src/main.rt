@@ -13,8 +13,7 @@ use typed_values::Number;
 fn print_reply(rt: &impl Print, rounding: u8, range: u8, r: Reply) -> io::Result<()> {
     let number = answer_numbers::number(r.answer);
     print!(rt; " {rounding} {range} {number}")?;
-    if answer_numbers::names_position(number as usize) {
-        let position = answer_numbers::position(r.answer);
+    if let Some(position) = answer_numbers::position(r.answer) {
         print!(rt; " at {position}")?;
     }
     let c = r.counts;

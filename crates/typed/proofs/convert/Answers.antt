@@ -24,8 +24,8 @@ returns-in_default g c =
     let l = c.loop-i in
     (turns (pair g) a.src.now a.entries.now a.rounding a.range a.dst.now c.in-Ok.modes c.CODE.result c.CODE.ensures c.in-Ok.ensures
     l.i l.dst l.tally l.invariant c.loop-i-test.true l.auto.dst
-    c.index-src-i.result c.lookup.result c.cast-outcome.result (c.index-src-i.is, c.lookup.ensures, c.cast-outcome.ensures)).ends_there
-    c.in_default.not-Stored c.refusal.result c.refusal.ensures.answer c.reply.result c.reply.ensures
+    c.index-src-i.result c.lookup.result c.cast-fit.result (c.index-src-i.is, c.lookup.ensures, c.cast-fit.ensures)).ends_there
+    (λ b how e. c.in_default.not-Ok _ e) c.outcome-outcome.result c.outcome-outcome.ensures c.refusal.result c.refusal.ensures.answer c.reply.result c.reply.ensures
 
 pub count-requires : goal.count-requires
 count-requires g c =
@@ -40,8 +40,8 @@ loop-i-preserved g c =
     let l = c.loop-i in
     (turns (pair g) a.src.now a.entries.now a.rounding a.range a.dst.now c.in-Ok.modes c.CODE.result c.CODE.ensures c.in-Ok.ensures
     l.i l.dst l.tally l.invariant c.loop-i-test.true l.auto.dst
-    c.index-src-i.result c.lookup.result c.cast-outcome.result (c.index-src-i.is, c.lookup.ensures, c.cast-outcome.ensures)).goes_on
-    c.in-Stored.pattern c.in-Stored.fared c.in-Stored.is c.from_pattern.result c.from_pattern.ensures c.count.new.tally c.count.ensures
+    c.index-src-i.result c.lookup.result c.cast-fit.result (c.index-src-i.is, c.lookup.ensures, c.cast-fit.ensures)).goes_on
+    c.in-Ok-fit.stored.pattern c.in-Ok-fit.stored.fared c.in-Ok-fit.is c.from_pattern.result c.from_pattern.ensures c.count.new.tally c.count.ensures
 
 pub returns : goal.returns
 returns g c =

@@ -11,18 +11,18 @@ use Rattle.typed_entries.proofs.Lookups.{test, target_of, first_found}
 use Rattle.typed_entries.proofs.lookup.Goals as goal
 use Rattle.std.specs.Prelude.{None, Some}
 
-pub returns-in-Some : goal.returns-in-Some
-returns-in-Some g c =
+pub returns : goal.returns
+returns g c =
     let k = kind_of g.K.Number.CODE in
     let v = value_of k (g.K.Number.pattern c.args.x) in
     let of = entry_of g.K.Number.pattern g.T.Number.pattern g.E.MapEntry.key g.E.MapEntry.target in
-    let e : Some c.in-Some.entry.now ≡ find (test of k v) c.args.entries.now = find_from_yields_List (test of k v) c.find.new.self _ (Some c.in-Some.entry) c.in-Some.ensures.ran (YieldsList-from_slice c.args.entries.now cc) (λ x b q h. search rules) in
+    let e : Some c.in_ok-entry.entry.now ≡ find (test of k v) c.args.entries.now = find_from_yields_List (test of k v) c.find.new.self _ (Some c.in_ok-entry.entry) c.in_ok-entry.ensures.ran (YieldsList-from_slice c.args.entries.now cc) (λ x b q h. search rules) in
     ap Some (c.pattern.ensures ∙ ap g.T.Number.pattern c.target.ensures) ∙ ap (target_of of k v) e ∙ first_found of k v c.args.entries.now
 
-pub returns-in-None : goal.returns-in-None
-returns-in-None g c =
+pub returns-in_err-entry : goal.returns-in_err-entry
+returns-in_err-entry g c =
     let k = kind_of g.K.Number.CODE in
     let v = value_of k (g.K.Number.pattern c.args.x) in
     let of = entry_of g.K.Number.pattern g.T.Number.pattern g.E.MapEntry.key g.E.MapEntry.target in
-    let e : None ≡ find (test of k v) c.args.entries.now = find_from_yields_List (test of k v) _ _ None c.in-None.ensures.ran (YieldsList-from_slice c.args.entries.now cc) (λ x b q h. search rules) in
-    ap (target_of of k v) e ∙ first_found of k v c.args.entries.now
+    let e : None ≡ find (test of k v) c.args.entries.now = find_from_yields_List (test of k v) _ _ None c.in_err-entry.ensures.ran (YieldsList-from_slice c.args.entries.now cc) (λ x b q h. search rules) in
+    c.from_residual.ensures ∙ ap (target_of of k v) e ∙ first_found of k v c.args.entries.now

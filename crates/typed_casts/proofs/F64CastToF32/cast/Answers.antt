@@ -1,18 +1,13 @@
--- The fit is that of the pattern, and its outcome that of the definitions.
+-- The steps are those of the element's pattern.
 use Rattle.std.proofs.Common.{ap, ◌∙◌}
-use Rattle.kinds.proofs.Constants.{f32_row}
 use Rattle.steps.proofs.Steps.{f64_to_float_steps}
-use Rattle.typed_casts.specs.Cast.{cast_of}
-use Rattle.typed_casts.proofs.Casts.{cast_is}
-use Rattle.typed_casts.proofs.Formats.{f64_below, f64_pattern}
+use Rattle.kinds.specs.Table.{kind_of}
+use Rattle.steps.specs.Steps.{stepped}
+use Rattle.typed_casts.proofs.Formats.{f64_below}
 use Rattle.typed_casts.proofs.F64CastToF32.cast.Goals as goal
-
-pub outcome-requires : goal.outcome-requires
-outcome-requires c = (f64_pattern _ (f64_below _ c.args.self c.pattern-b.ensures), f32_row)
 
 pub returns : goal.returns
 returns c =
     let a = c.args in
     let x = c.read-x in
-    let t = c.step_float_to_float-fit in
-    cast_is 9 8 a.modes a.found c.pattern-b.result t.result (t.ensures ∙ f64_to_float_steps 24 8 925 c.pattern-b.result (f64_below _ c.args.self c.pattern-b.ensures) x.result x.ensures a.found a.modes.rounding a.modes.range) c.outcome.result c.outcome.ensures ∙ ap (cast_of 9 8 a.modes a.found) c.pattern-b.ensures
+    c.step_float_to_float.ensures ∙ f64_to_float_steps 24 8 925 c.pattern-b.result (f64_below _ c.args.self c.pattern-b.ensures) x.result x.ensures a.found a.modes.rounding a.modes.range ∙ ap (stepped a.found (kind_of 9) (kind_of 8) a.modes.rounding a.modes.range) c.pattern-b.ensures

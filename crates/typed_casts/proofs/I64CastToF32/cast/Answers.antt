@@ -1,4 +1,4 @@
--- The fit is that of the pattern, and its outcome that of the definitions.
+-- The steps are those of the element's pattern.
 use Rattle.std.proofs.Common.{◌≡◌, ℕ, ap, ◌∙◌, true}
 use lib.IntN.{ℤ}
 use mir.Syntax.{w64}
@@ -7,8 +7,8 @@ use mir.ValLaws.{to_z-of_z}
 use Rattle.patterns.specs.Kind.{f32}
 use Rattle.steps.proofs.Steps.{integer_steps}
 use Rattle.typed_values.specs.Bits.{i64_bits}
-use Rattle.typed_casts.specs.Cast.{cast_of}
-use Rattle.typed_casts.proofs.Casts.{cast_is}
+use Rattle.kinds.specs.Table.{kind_of}
+use Rattle.steps.specs.Steps.{stepped}
 use Rattle.typed_casts.proofs.Formats.{i64_below, i64_pattern}
 use Rattle.typed_casts.proofs.I64CastToF32.cast.Goals as goal
 
@@ -19,5 +19,4 @@ pub returns : goal.returns
 returns c =
     let a = c.args in
     let x = c.int_magnitude-x in
-    let t = c.step_int_to_float-fit in
-    cast_is 3 8 a.modes a.found c.pattern-b.result t.result (t.ensures ∙ integer_steps c.pattern-b.result true 64 (i64_pattern _ (i64_below _ c.args.self (own c.args.self c.ranges.self c.pattern-b.ensures))) x.result x.ensures a.found f32 a.modes.rounding a.modes.range) c.outcome.result c.outcome.ensures ∙ ap (cast_of 3 8 a.modes a.found) (own a.self c.ranges.self c.pattern-b.ensures)
+    c.step_int_to_float.ensures ∙ integer_steps c.pattern-b.result true 64 (i64_pattern _ (i64_below _ c.args.self (own c.args.self c.ranges.self c.pattern-b.ensures))) x.result x.ensures a.found f32 a.modes.rounding a.modes.range ∙ ap (stepped a.found (kind_of 3) (kind_of 8) a.modes.rounding a.modes.range) (own a.self c.ranges.self c.pattern-b.ensures)
