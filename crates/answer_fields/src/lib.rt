@@ -24,18 +24,22 @@ fn values(a: Answer) -> Values
             [src_len as u64, dst_len as u64, 0, 0, 0, 0]
         }
         Err(Refusal::NanOrInf { position, value }) => [0, 0, position as u64, value, 0, 0],
-        Err(Refusal::OutOfRange {
-            position,
-            value,
-            lo,
-            hi,
-        }) => [0, 0, position as u64, value, lo.cast_unsigned(), hi],
-        Err(Refusal::FloatOutOfRange {
-            position,
-            value,
-            lo,
-            hi,
-        }) => [0, 0, position as u64, value, lo, hi],
+        Err(
+            Refusal::OutOfRange {
+                position,
+                value,
+                lo,
+                hi,
+            },
+        ) => [0, 0, position as u64, value, lo.cast_unsigned(), hi],
+        Err(
+            Refusal::FloatOutOfRange {
+                position,
+                value,
+                lo,
+                hi,
+            },
+        ) => [0, 0, position as u64, value, lo, hi],
         _ => [0; 6],
     }
 }

@@ -12,7 +12,13 @@ use grid::RoundingMode;
 use routes::Route;
 
 // By the route of the two kinds; to its own kind a pattern is unchanged. What was found is told first: then it is told once, whatever the route.
-pub fn step(b: u64, found: Option<u64>, route: Route, mode: RoundingMode, range: OutOfRangeMode) -> Fit
+pub fn step(
+    b: u64,
+    found: Option<u64>,
+    route: Route,
+    mode: RoundingMode,
+    range: OutOfRangeMode,
+) -> Fit
     requires { RouteRow route × SourcePattern b route }
     ensures { result ≡ stepped found (source_of route) (target_of route) mode range b }
 {

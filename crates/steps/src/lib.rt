@@ -17,7 +17,12 @@ use integers::Integer;
 use kinds::{FloatFormat, IntegerFormat};
 
 // From an integer kind to an integer kind.
-pub fn step_int_to_int(x: Integer, found: Option<u64>, to: IntegerFormat, range: OutOfRangeMode) -> Fit
+pub fn step_int_to_int(
+    x: Integer,
+    found: Option<u64>,
+    to: IntegerFormat,
+    range: OutOfRangeMode,
+) -> Fit
     requires { IntegerRow to }
     ensures { (mode : RoundingMode) → result ≡ found_fit found (fit_integer (integer_of to) mode range x) }
 {
