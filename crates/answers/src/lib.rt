@@ -95,7 +95,7 @@ pub fn exact(pattern: u64) -> Fit
     ensures { result ≡ fit_as pattern Fared.Exact }
 {
     Ok(Stored {
-        pattern: pattern,
+        pattern,
         fared: Fared::Exact,
     })
 }

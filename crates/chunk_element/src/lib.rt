@@ -36,8 +36,7 @@ fn look_up(b: u64, keys: &[u8], targets: &[u8], s: Settings) -> Option<u64>
     if s.entries == 0 {
         return None;
     }
-    let source = s.source;
-    match source {
+    match s.source {
         Format::Integer(_) => {
             mapping::apply_scalar_map_int(b, keys, targets, s.entries, s.sw, s.dw)
         }
@@ -52,11 +51,8 @@ fn steps(b: u64, keys: &[u8], targets: &[u8], s: Settings) -> Fit
     requires { ElementReady b s keys.now targets.now }
     ensures { result ≡ fit_of (outcome_of (settings_for s keys.now targets.now) b) }
 {
-    let route = s.route;
-    let rounding = s.rounding;
-    let range = s.range;
     let found = look_up(b, keys, targets, s);
-    route_steps::step(b, found, route, rounding, range)
+    route_steps::step(b, found, s.route, s.rounding, s.range)
 }
 
 // What the element at the byte `input` of the source comes to.
@@ -73,7 +69,5 @@ pub fn refused_at(src: &[u8], s: Settings, input: usize, position: usize, r: Fit
     ensures { result ≡ refused_answer s (from_le (take s.sw (drop input src.now))) position r }
 {
     let b = bytes_le::read_le(src, input, s.sw);
-    let source = s.source;
-    let target = s.target;
-    refusals::refusal(position, element::outcome(b, r, source, target))
+    refusals::refusal(position, element::outcome(b, r, s.source, s.target))
 }

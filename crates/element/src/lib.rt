@@ -29,8 +29,7 @@ fn widen(b: u64, format: FloatFormat) -> Widened
     requires { FloatPattern b format × (format.precision ≡ 53 → ⊥) }
     ensures { result ≡ widened_of format.precision format.exponent_bits format.spacing b }
 {
-    let precision = format.precision;
-    match precision {
+    match format.precision {
         11 => (b as u16).widen(),
         _ => (b as u32).widen(),
     }
@@ -41,8 +40,7 @@ pub fn read_float(b: u64, format: FloatFormat) -> Float
     requires { FloatPattern b format }
     ensures { result ≡ form.float_of (float_of format) b }
 {
-    let precision = format.precision;
-    match precision {
+    match format.precision {
         53 => b.read(),
         _ => floats::read_widened(widen(b, format)),
     }

@@ -27,13 +27,18 @@ pub fn convert_float_to_int(
     ensures { result ≡ fit_float (integer_of to) mode range x }
 {
     let negative = x.negative;
-    let class = x.class;
-    let Class::Finite(magnitude) = class else {
+    let Class::Finite(magnitude) = x.class else {
         return Err(ConversionError::NotFinite);
     };
     let whole = whole_numbers::round_to_whole(magnitude, mode, negative);
-    let ternary = whole.ternary;
-    integer_range::apply_range(negative, whole.magnitude, whole.exceeds, ternary, to, range)
+    integer_range::apply_range(
+        negative,
+        whole.magnitude,
+        whole.exceeds,
+        whole.ternary,
+        to,
+        range,
+    )
 }
 
 // A finite float of the given sign to a float kind; to f64 it is exact.
@@ -65,10 +70,8 @@ pub fn convert_float_to_float(
     requires { CanonicalClass x.class × FloatRow to }
     ensures { result ≡ fit_float (float_of to) mode range x }
 {
-    let negative = x.negative;
-    let class = x.class;
-    if let Class::Finite(magnitude) = class {
-        return finite_to_float(magnitude, negative, to, mode, range);
+    if let Class::Finite(magnitude) = x.class {
+        return finite_to_float(magnitude, x.negative, to, mode, range);
     }
     let precision = to.precision;
     match precision {

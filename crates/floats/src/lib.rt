@@ -30,10 +30,10 @@ fn finite(negative: bool, significand: u64, exponent: u64) -> Float
     ensures { result ≡ finite_float negative significand exponent }
 {
     Float {
-        negative: negative,
+        negative,
         class: Class::Finite(Scaled {
-            significand: significand,
-            exponent: exponent,
+            significand,
+            exponent,
         }),
     }
 }
@@ -44,12 +44,12 @@ fn infinite_or_nan(negative: bool, fraction: u64, nan: u64) -> Float
 {
     if fraction == 0 {
         return Float {
-            negative: negative,
+            negative,
             class: Class::Infinite,
         };
     }
     Float {
-        negative: negative,
+        negative,
         class: Class::NotANumber { fraction: nan },
     }
 }
@@ -112,8 +112,7 @@ pub fn write_f64(x: Float) -> u64
     ensures { result ≡ f64_of x }
 {
     let sign = float_fields::sign_bit(x.negative, 63);
-    let class = x.class;
-    match class {
+    match x.class {
         Class::Finite(magnitude) => sign + scaled::finite_bits(magnitude),
         Class::Infinite => sign + 0x7ff0_0000_0000_0000,
         Class::NotANumber { fraction } => sign + 0x7ff0_0000_0000_0000 + fraction,

@@ -33,15 +33,14 @@ pub fn convert_int_to_float(
     let negative = x.negative;
     let precision = to.precision;
     let rounded = integer_to_f64::int_to_f64_magnitude(x.magnitude, negative, precision, mode);
-    let ternary = rounded.ternary;
     match precision {
         53 => Ok(Stored {
             pattern: float_fields::sign_bit(negative, 63) + rounded.bits,
-            fared: counts::by_pick(ternary),
+            fared: counts::by_pick(rounded.ternary),
         }),
         _ => rebiasing::fit_rebiased(
             rounded.bits,
-            ternary,
+            rounded.ternary,
             negative,
             precision,
             to.exponent_bits,

@@ -31,10 +31,9 @@ pub fn int_to_f64_magnitude(
         };
     }
     let rounded = integer_rounding::round_int_to_precision(magnitude, negative, precision, mode);
-    let ternary = rounded.ternary;
     Rounded {
         bits: f64::to_bits(rounded.magnitude),
-        ternary: ternary,
+        ternary: rounded.ternary,
     }
 }
 

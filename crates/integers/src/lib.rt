@@ -21,7 +21,7 @@ pub fn int_magnitude(b: u64, signed: bool, bits: u32) -> Integer
     let negative = if signed { half <= b } else { false };
     let opposite = std::num::wrapping_sub_u64(half, std::num::wrapping_sub_u64(b, half));
     Integer {
-        negative: negative,
+        negative,
         magnitude: select::choose(negative, opposite, b),
     }
 }

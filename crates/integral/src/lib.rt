@@ -60,9 +60,8 @@ pub fn round_with_mode<B: ReadFloat>(b: B, mode: RoundingMode) -> Rounded
 {
     let x = b.read();
     let negative = x.negative;
-    let class = x.class;
     let bits = b.to_u64();
-    let Class::Finite(magnitude) = class else {
+    let Class::Finite(magnitude) = x.class else {
         return Rounded {
             bits,
             ternary: Ternary::Exact,

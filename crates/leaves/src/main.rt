@@ -147,8 +147,7 @@ fn float_parts(rt: &impl Print) -> io::Result<()> {
 // The sign of a float, and a finite number's significand and exponent, or what else it is.
 fn put_float(rt: &impl Print, x: Float) -> io::Result<()> {
     let sign = sign(x.negative);
-    let class = x.class;
-    match class {
+    match x.class {
         Class::Finite(magnitude) => println!(rt;
             " {sign} {:014x} {:03x}",
             magnitude.significand, magnitude.exponent

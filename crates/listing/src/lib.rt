@@ -35,8 +35,7 @@ fn put_call(
         rounding,
         range,
     );
-    let answer = reply.answer;
-    report::put_report(out, &work[..size], answer, n, w)
+    report::put_report(out, &work[..size], reply.answer, n, w)
 }
 
 // Puts the listing of an input into a buffer that is long enough, and returns its length.

@@ -25,7 +25,7 @@ pub fn layout_of(input: &[u8]) -> Layout
     let entries = bytes_le::read_le(input, 4, 2) as usize;
     let targets = 6 + entries * sw;
     Layout {
-        targets: targets,
+        targets,
         elements: targets + entries * dw,
     }
 }

@@ -52,8 +52,7 @@ pub fn narrow(
     ensures { result ≡ fit_number (binary p w s) mode range negative (signed negative (x.significand * 2 ^ x.exponent)) }
 {
     let rounded = narrow_magnitude(x, p, s, mode, negative);
-    let ternary = rounded.ternary;
-    float_range::fit_bits(rounded.bits, ternary, negative, p, w, range)
+    float_range::fit_bits(rounded.bits, rounded.ternary, negative, p, w, range)
 }
 
 // The top of an f64 NaN's fraction as one of p - 1 bits, with the highest bit set.
@@ -71,9 +70,8 @@ pub fn narrow_special(x: Float, p: u32, w: u32) -> u64
     requires { Special x.class × FormatBits p w }
     ensures { (s : ℕ) (mode : RoundingMode) (range : OutOfRangeMode) → fit_as result Fared.Exact ≡ fit_float (binary p w s) mode range x }
 {
-    let class = x.class;
     let infinity = float_range::infinity(x.negative, p, w);
-    if let Class::NotANumber { fraction } = class {
+    if let Class::NotANumber { fraction } = x.class {
         return infinity + quiet_fraction(fraction, p);
     }
     infinity

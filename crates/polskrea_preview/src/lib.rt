@@ -24,7 +24,6 @@ pub extern "C" fn polskrea_preview(
     ensures { ReturnedPreview (inputs src.now dst.now keys.now targets.now from to rounding range) result answer.new changed.new }
 {
     let p = chunk::preview(src, dst, keys, targets, from, to, rounding, range);
-    let reply = p.reply;
     *changed = p.changed as u64;
-    answer_fields::answered(reply, answer)
+    answer_fields::answered(p.reply, answer)
 }

@@ -5,7 +5,7 @@ use Rattle.cast_spec.specs.Chunk.{answer_next}
 use Rattle.answers.specs.Outcome.{Answer, Outcome}
 use Rattle.std.specs.Prelude.{Ok}
 
--- r is the answer where the element at the position i comes to o: `(Ok tt)` where o is stored
+-- r is the answer where the element at the position i comes to o: `Ok` where o is stored
 pub record RefusalOf (i : ℕ) (o : Outcome) (r : Answer) : Type 0 where
   pub answer : r ≡ answer_next o i (Ok tt)
   pub number : number_of r ≡ outcome_number o

@@ -197,7 +197,7 @@ fn replay_case<R: Read>(
     Ok(true)
 }
 
-// Replays the list to its end.
+// Replays the list to its end. Nothing says that a file ends, so the turns are counted.
 fn replay<R: Read>(source: &mut R, sections: &mut [Section; 6]) -> io::Result<()> {
     for _ in 0..u64::MAX {
         let Some(case) = read_case(source)? else {

@@ -28,7 +28,7 @@ pub fn reply(answer: Answer, tally: Tally) -> Reply
     ensures { result ≡ reply_of answer (counts_in tally) }
 {
     Reply {
-        answer: answer,
+        answer,
         counts: counts_of(tally),
     }
 }

@@ -20,7 +20,7 @@ use Rattle.typed.proofs.Turns.{Elements, settings}
 
 -- ---- any pair that has the laws, with entries of a type Z
 module _ {X Y Z : Type 0} (from to : ℕ) (source : X → ℕ) (target : Y → ℕ) (read : ℕ → Y) (key_of : Z → X) (target_of : Z → Y) where
-  pub by_parts : (zs : List Z) → map (entry_of source target key_of target_of) zs ≡ map (spec.entry_of source target) (map (λ (z : Z). (key_of z, target_of z)) zs)
+  pub by_parts : (zs : List Z) → map (entry_of source target key_of target_of) zs ≡ map (spec.pair_entry source target) (map (λ (z : Z). (key_of z, target_of z)) zs)
   by_parts [] = refl
   by_parts (z ∷ zs) = ap (λ (es : List Entry). entry_of source target key_of target_of z ∷ es) (by_parts zs)
 

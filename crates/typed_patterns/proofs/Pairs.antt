@@ -18,7 +18,7 @@ use Rattle.typed_values.specs.Bits.{f64_bits, f32_bits, i64_bits, i32_bits, u8_b
 use Rattle.typed_values.proofs.Fits.{f64_fits, f32_fits, i64_fits, i32_fits, u8_fits}
 use Rattle.typed_values.proofs.Nans.{Back, quiet, quiet_kept, bits_are_back}
 use Rattle.typed_patterns.specs.Values.{u8_of, i32_of, f32_of}
-use Rattle.typed_patterns.specs.Pairs.{entry_of, PairLaws}
+use Rattle.typed_patterns.specs.Pairs.{pair_entry, PairLaws}
 use Rattle.typed_patterns.proofs.Stored.{read_back, stored_back}
 
 -- ---- the bytes of a number are those of its remainder
@@ -86,7 +86,7 @@ f64_to_f32 = record {
   source_fits = f64_fits;
   target_fits = f32_fits;
   keeps = λ s from to entries e x b f h.
-      read_back b (stored_back (entry_of f64_bits f32_bits) (λ p. bits_are_back p.1) entries s to e (f64_bits x) b f
+      read_back b (stored_back (pair_entry f64_bits f32_bits) (λ p. bits_are_back p.1) entries s to e (f64_bits x) b f
       (λ n. subst (λ (k : Kind). Back (nan_pattern k 24 8 (f64_bits x))) (sym from) (subst (λ (z : ℕ). Back (nan_pattern f64 24 8 z)) (sym (quiet binary64 x (subst (λ (k : Kind). value_of k (f64_bits x) ≡ nan) from n))) quiet_kept)) h);
 }
 
@@ -97,6 +97,6 @@ i64_to_f32 = record {
   source_fits = i64_fits;
   target_fits = f32_fits;
   keeps = λ s from to entries e x b f h.
-      read_back b (stored_back (entry_of i64_bits f32_bits) (λ p. bits_are_back p.1) entries s to e (i64_bits x) b f
+      read_back b (stored_back (pair_entry i64_bits f32_bits) (λ p. bits_are_back p.1) entries s to e (i64_bits x) b f
       (λ n. absurd (no_integer_nan true 64 (i64_bits x) (subst (λ (k : Kind). value_of k (i64_bits x) ≡ nan) from n))) h);
 }

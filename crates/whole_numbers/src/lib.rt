@@ -29,11 +29,10 @@ pub fn round_to_whole(x: Scaled, mode: RoundingMode, negative: bool) -> Whole
             mode,
             negative,
         );
-        let ternary = rounded.ternary;
         return Whole {
             magnitude: rounded.bits,
             exceeds: false,
-            ternary: ternary,
+            ternary: rounded.ternary,
         };
     }
     if exponent < 1138 {

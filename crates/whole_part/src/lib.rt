@@ -14,8 +14,7 @@ pub fn wrap_integral_f64(b: u64, bits: u32) -> u64
 {
     let x = b.read();
     let negative = x.negative;
-    let class = x.class;
-    let Class::Finite(magnitude) = class else {
+    let Class::Finite(magnitude) = x.class else {
         return 0;
     };
     let whole = whole_numbers::round_to_whole(magnitude, RoundingMode::TowardsZero, negative);
