@@ -4,7 +4,7 @@ use mathlib.Core.Bool.{Bool, true, false, cond, ◌&&◌, not}
 use mathlib.Core.Path.{◌≡◌, refl, sym, ap, ap₂, subst, ◌∙◌}
 use Prim.Native.Nat.{ℕ, ◌+◌, ◌-◌, ◌*◌, ◌/◌, ◌%◌, ◌^◌, ◌≤◌, ◌<◌}
 use native.Mathlib.Omega.{arith}
-use native.Mathlib.Nat.{mul-div_cancel, mul-mod_left, le_of_eq, sub-zero, zero-mul}
+use native.Mathlib.Nat.{mod-eq_of_lt, mul-div_cancel, mul-mod_left, le_of_eq, sub-zero, zero-mul}
 use native.Mathlib.Numerals.{add-one}
 use lib.ListN.{length, get_or, take, drop, set, length-map}
 use lib.Dec.{T, ltb, eqb}
@@ -274,28 +274,34 @@ module _ {X Y Z : Type 0} (P : Elements X Y Z) (xs : List X) (ys : List Z) (roun
         pub countable : length ds < 2 ^ 64 → Countable ts
         countable h = record { six = inv.six; room = λ f. let l : count_of f (counts_in ts) ≤ i = subst (λ (c : Counts). count_of f c ≤ i) (sym inv.counts) (count_le o f i) in omega (arith, pass.meet) }
 
-        -- the fit of the element x, as the program has it
-        abbrev Comes : X → Option ℕ → Fit → Type 0
-        Comes x f t = (x ≡ get_or xs i x) × (f ≡ lookup_of (kind_of from) (value_of (kind_of from) (P.source_bits x)) es) × (t ≡ stepped f (kind_of from) (kind_of to) m.rounding m.range (P.source_bits x))
+        -- the pattern p and the fit of the element x, as the program has them
+        abbrev Comes : X → ℕ → Option ℕ → Fit → Type 0
+        Comes x p f t = (x ≡ get_or xs i x) × (p ≡ P.source_bits x) × (f ≡ lookup_of (kind_of from) (value_of (kind_of from) (p % 2 ^ bits (kind_of from))) es) × (t ≡ stepped f (kind_of from) (kind_of to) m.rounding m.range p)
 
-        -- a turn at the element x of the fit t: where it is stored, the next turn goes on from it, and where it is refused, the call ends there
-        pub record Turn (x : X) (t : Fit) : Type 0 where
+        -- a turn at the element of the pattern p and the fit t: where it is stored, the next turn goes on from it, and where it is refused, the call ends there
+        pub record Turn (p : ℕ) (t : Fit) : Type 0 where
           pub goes_on : (b : ℕ) (how : Fared) → t ≡ fit_as b how → (y : Y) → y ≡ read b → (ts' : List ℕ) → Tallied how ts ts' → Inv In w (length ps) (i + 1) (bytes (set zs i y)) ts'
-          pub ends_there : ((b : ℕ) (how : Fared) → t ≡ fit_as b how → ⊥) → (z : Outcome) → z ≡ filled (kind_of to) (as_f64 (kind_of from) (P.source_bits x)) t → (a : Answer) → a ≡ answer_next z i (Ok tt)
+          pub ends_there : ((b : ℕ) (how : Fared) → t ≡ fit_as b how → ⊥) → (z : Outcome) → z ≡ filled (kind_of to) (as_f64 (kind_of from) p) t → (a : Answer) → a ≡ answer_next z i (Ok tt)
               → (r : Reply) → r ≡ reply a ts → Contract In r (bytes zs)
 
-        module _ (x : X) (f : Option ℕ) (t : Fit) (comes : Comes x f t) where
+        module _ (x : X) (p : ℕ) (f : Option ℕ) (t : Fit) (comes : Comes x p f t) where
           abbrev comes_to : Outcome
-          comes_to = cast_of m f (P.source_bits x)
+          comes_to = cast_of m f p
 
-          own : outcome_of S (P.source_bits x) ≡ comes_to
-          own = sym (ap (λ (n : Modes). cast_of n f (P.source_bits x)) pass.modes_are ∙ outcome_is (P.source_bits x) f comes.1)
+          fits_kind : p < 2 ^ bits (kind_of from)
+          fits_kind = subst (λ (n : ℕ). n < 2 ^ bits (kind_of from)) (sym comes.1) (P.source_fits x)
+
+          looked_up : f ≡ lookup_of (kind_of from) (value_of (kind_of from) p) es
+          looked_up = comes.2 ∙ ap (λ (n : ℕ). lookup_of (kind_of from) (value_of (kind_of from) n) es) (mod-eq_of_lt fits_kind)
+
+          own : outcome_of S p ≡ comes_to
+          own = sym (ap (λ (n : Modes). cast_of n f p) pass.modes_are ∙ outcome_is p f looked_up)
 
           outcome_at_i : comes_to ≡ o i
-          outcome_at_i = sym own ∙ ap (outcome_of S) (ap P.source_bits comes.0 ∙ mapped_at P.source_bits xs i x inside) ∙ sym (outcome_at_lem (map of ds) i below)
+          outcome_at_i = sym own ∙ ap (outcome_of S) (comes.1 ∙ ap P.source_bits comes.0 ∙ mapped_at P.source_bits xs i x inside) ∙ sym (outcome_at_lem (map of ds) i below)
 
           fit_is : t ≡ fit_of comes_to
-          fit_is = comes.2 ∙ found_outcome f (unmapped (kind_of from) (kind_of to) m.rounding m.range (P.source_bits x))
+          fit_is = comes.3 ∙ found_outcome f (unmapped (kind_of from) (kind_of to) m.rounding m.range p)
 
           stores : (b : ℕ) (how : Fared) → t ≡ fit_as b how → (y : Y) → y ≡ read b → (ts' : List ℕ) → Tallied how ts ts' → Inv In w (length ps) (i + 1) (bytes (set zs i y)) ts'
           stores b how e y r ts' tallied =
@@ -306,14 +312,14 @@ module _ {X Y Z : Type 0} (P : Elements X Y Z) (xs : List X) (ys : List Z) (roun
                 six = tallied.six;
                 run = rw add-one (kept o w (length ps) R W i (bytes zs) inv.run below b how (bytes (set zs i y)) k room
                     (ap (bytes_of w) (map_set of zs i y) ∙ set_bytes w (map of zs) i (of y) (subst (λ (n : ℕ). i < n) (sym (length-map zs of)) within)
-                    ∙ ap (λ (t : List ℕ). take (i * w) (bytes zs) ++ (t ++ drop w (drop (i * w) (bytes zs)))) (ap (λ (u : Y). to_le w (of u)) r ∙ P.keeps ys rounding range x b how (own ∙ stored))));
+                    ∙ ap (λ (t : List ℕ). take (i * w) (bytes zs) ++ (t ++ drop w (drop (i * w) (bytes zs)))) (ap (λ (u : Y). to_le w (of u)) r ∙ P.keeps ys rounding range x b how (ap (outcome_of S) (sym comes.1) ∙ own ∙ stored))));
                 counts = tallied.counts ∙ ap (counted how) inv.counts ∙ rw add-one (one_more o i b how k);
               }
 
-          refuses : ((b : ℕ) (how : Fared) → t ≡ fit_as b how → ⊥) → (z : Outcome) → z ≡ filled (kind_of to) (as_f64 (kind_of from) (P.source_bits x)) t → (a : Answer) → a ≡ answer_next z i (Ok tt)
+          refuses : ((b : ℕ) (how : Fared) → t ≡ fit_as b how → ⊥) → (z : Outcome) → z ≡ filled (kind_of to) (as_f64 (kind_of from) p) t → (a : Answer) → a ≡ answer_next z i (Ok tt)
               → (r : Reply) → r ≡ reply a ts → Contract In r (bytes zs)
           refuses n z z_is a e r says =
-              let same : z ≡ comes_to = z_is ∙ ap (filled (kind_of to) (as_f64 (kind_of from) (P.source_bits x))) fit_is ∙ outcome_filled f (kind_of from) (kind_of to) m.rounding m.range (P.source_bits x) in
+              let same : z ≡ comes_to = z_is ∙ ap (filled (kind_of to) (as_f64 (kind_of from) p)) fit_is ∙ outcome_filled f (kind_of from) (kind_of to) m.rounding m.range p in
               let h : Refuses comes_to = refuses_of comes_to (λ b how c. n b how (fit_is ∙ ap fit_of c)) in
               let g = refused o w (length ps) R W i (bytes zs) inv.run below (subst Refuses outcome_at_i h) in
               let next : a ≡ answer_next comes_to i (Ok tt) = e ∙ ap (λ (u : Outcome). answer_next u i (Ok tt)) same in
@@ -326,5 +332,5 @@ module _ {X Y Z : Type 0} (P : Elements X Y Z) (xs : List X) (ys : List Z) (roun
               refuses_of (Err (OutOfRange v lo hi)) n = tt
               refuses_of (Err (FloatOutOfRange v lo hi)) n = tt
 
-          pub turns : Turn x t
+          pub turns : Turn p t
           turns = record { goes_on = stores; ends_there = refuses }

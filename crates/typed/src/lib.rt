@@ -8,11 +8,28 @@ ghost use Rattle.typed.specs.Typed.{TypedContract};
 
 use answers::{Refusal, Reply};
 use typed_casts::{CastTo, Modes};
-use typed_entries::MapEntry;
+use typed_entries::{Entry, EntryF32U8, EntryF64I32, EntryF64U8, EntryI64F32, MapEntry};
 use typed_patterns::FromPattern;
 
+// Three map entries by value.
+pub type ThreeEntryF64U8 = [EntryF64U8; 3];
+
+pub type ThreeEntryF64I32 = [EntryF64I32; 3];
+
+pub type ThreeEntryF32U8 = [EntryF32U8; 3];
+
+pub type ThreeEntry = [Entry; 3];
+
+pub type ThreeEntryI64F32 = [EntryI64F32; 3];
+
 // The checks before the elements, of a target of the kind `to`: the codes, wrap with a float, then the counts of elements.
-fn check(src_len: usize, dst_len: usize, to: u8, rounding: u8, range: u8) -> Result<Modes, Refusal>
+pub fn check(
+    src_len: usize,
+    dst_len: usize,
+    to: u8,
+    rounding: u8,
+    range: u8,
+) -> Result<Modes, Refusal>
     ensures { result ≡ check_of src_len dst_len to rounding range }
 {
     if !codes::rules_listed(rounding, range) {
@@ -46,9 +63,11 @@ pub fn convert<S: CastTo<T>, T: FromPattern, E: MapEntry<S, T>>(
     };
     let mut tally = tallies::no_tally();
     for (i, x) in src.iter().enumerate() {
-        let fit = x.cast(typed_entries::lookup(entries, *x), modes);
+        let b = x.pattern();
+        let found = typed_entries::lookup::<S, T, E>(entries, b);
+        let fit = S::cast(b, found, modes);
         let Ok(stored) = fit else {
-            let outcome = typed_casts::outcome::<S, T>(*x, fit);
+            let outcome = typed_casts::outcome::<S, T>(b, fit);
             return replies::reply(refusals::refusal(i, outcome), tally);
         };
         tallies::count(&mut tally, stored.fared);

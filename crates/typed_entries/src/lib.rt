@@ -1,10 +1,11 @@
 // The map of a typed call: entries of a key and a target, and the target of the first entry that matches.
 #![tactic(auto)]
 
-ghost use Rattle.std.specs.Prelude.{◌≡◌, map};
+ghost use Rattle.std.specs.Prelude.{◌≡◌, map, ◌%◌, ◌^◌};
+ghost use Rattle.patterns.specs.Kind.{bits};
 ghost use Rattle.patterns.specs.Value.{value_of};
 ghost use Rattle.kinds.specs.Table.{kind_of};
-ghost use Rattle.cast_spec.specs.Element.{lookup_of};
+ghost use Rattle.cast_spec.specs.Element.{matches, lookup_of};
 ghost use Rattle.typed_entries.specs.Entries.{entry_of};
 
 use typed_keys::Key;
@@ -133,10 +134,21 @@ impl MapEntry<i64, f32> for EntryI64F32 {
     }
 }
 
-// The target of the first entry that matches.
-pub fn lookup<K: Key, T: Number, E: MapEntry<K, T>>(entries: &[E], x: K) -> Option<u64>
-    ensures { result ≡ lookup_of (kind_of K.CODE) (value_of (kind_of K.CODE) (K.pattern x)) (map (entry_of K.pattern T.pattern E.key E.target) entries.now) }
+// Whether an entry's key matches the number of the pattern x.
+fn matches<K: Key, T: Number, E: MapEntry<K, T>>(entry: E, x: u64) -> bool
+    ensures { result ≡ matches (value_of (kind_of K.CODE) (x % 2 ^ bits (kind_of K.CODE))) (value_of (kind_of K.CODE) (entry_of K.pattern T.pattern E.key E.target entry).key) }
 {
-    let entry = entries.iter().find(|entry| x.matches(entry.key()))?;
-    Some(entry.target().pattern())
+    entry.key().matches(x)
+}
+
+// The target of the first entry that matches the number of the pattern x.
+pub fn lookup<K: Key, T: Number, E: MapEntry<K, T>>(entries: &[E], x: u64) -> Option<u64>
+    ensures { result ≡ lookup_of (kind_of K.CODE) (value_of (kind_of K.CODE) (x % 2 ^ bits (kind_of K.CODE))) (map (entry_of K.pattern T.pattern E.key E.target) entries.now) }
+{
+    for entry in entries {
+        if matches::<K, T, E>(*entry, x) {
+            return Some(entry.target().pattern());
+        }
+    }
+    None
 }

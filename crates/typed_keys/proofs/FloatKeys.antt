@@ -1,6 +1,7 @@
--- Whether a float key matches a float, by comparing them.
+-- Whether a float key matches a pattern of its format, by comparing floats: the key, and the float v of the pattern.
 use mathlib.Core.Path.{◌≡◌, refl, ap, ap₂, subst, sym, ◌∙◌}
 use mathlib.Core.Bool.{Bool, true, false, ◌&&◌, ◌||◌, true≢false}
+use Prim.Native.Nat.{ℕ}
 use lib.Dec.{T}
 use lib.Ieee.{Float, Format, nan, inf, fin, eq, ne, fits, is_nan, of_bits}
 use lib.Ieee.Bits.{of_bits-to_bits}
@@ -26,12 +27,13 @@ only_nan_differs x = go (ne x x) refl
     go true e = e ∙ sym (ap is_nan (differs_from_itself x (subst T (sym e) tt)))
     go false e = e ∙ no_nan x e
 
-module _ (f : Format) where
-  agrees : (x : Float) → fits f x ≡ true → Agrees x (value_of (kind_for f) (float_bits f x))
-  agrees x e = subst (λ (y : Float). Agrees y (value_of (kind_for f) (float_bits f x))) (ap (of_bits f) (sym (own_bits f x e)) ∙ of_bits-to_bits f x (subst T (sym e) tt)) (agree f (float_bits f x))
+module _ (f : Format) (key v : Float) (x : ℕ) (key_fits : fits f key ≡ true) (read : v ≡ of_bits f x) where
+  key_agrees : Agrees key (value_of (kind_for f) (float_bits f key))
+  key_agrees = subst (λ (y : Float). Agrees y (value_of (kind_for f) (float_bits f key))) (ap (of_bits f) (sym (own_bits f key key_fits)) ∙ of_bits-to_bits f key (subst T (sym key_fits) tt)) (agree f (float_bits f key))
 
-  -- i says that x equals the key, and j that x is a NaN
-  pub key_matches : (x key : Float) → fits f x ≡ true → fits f key ≡ true → {i j : Bool} → eq x key ≡ i → is_nan x ≡ j → i || j && is_nan key ≡ matches (value_of (kind_for f) (float_bits f x)) (value_of (kind_for f) (float_bits f key))
-  key_matches x key e d i j =
-      sym (ap₂ (λ (p q : Bool). p || q) i (ap₂ (λ (p q : Bool). p && q) (only_nan_differs x ∙ j) (only_nan_differs key)))
-      ∙ floats_match x key _ _ (agrees x e) (agrees key d)
+  value_agrees : Agrees v (value_of (kind_for f) x)
+  value_agrees = subst (λ (y : Float). Agrees y (value_of (kind_for f) x)) (sym read) (agree f x)
+
+  -- i says that v equals the key, and j that v is a NaN
+  pub key_matches : {i j : Bool} → eq v key ≡ i → is_nan v ≡ j → i || j && is_nan key ≡ matches (value_of (kind_for f) x) (value_of (kind_for f) (float_bits f key))
+  key_matches i j = sym (ap₂ (λ (p q : Bool). p || q) i (ap₂ (λ (p q : Bool). p && q) (only_nan_differs v ∙ j) (only_nan_differs key))) ∙ floats_match v key _ _ value_agrees key_agrees

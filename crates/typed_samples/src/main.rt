@@ -4,6 +4,7 @@
 
 use answers::Reply;
 use std::io;
+use typed::{ThreeEntry, ThreeEntryF32U8, ThreeEntryF64I32, ThreeEntryF64U8, ThreeEntryI64F32};
 use typed_entries::{Entry, EntryF32U8, EntryF64I32, EntryF64U8, EntryI64F32};
 use typed_values::Number;
 
@@ -45,7 +46,7 @@ fn print_pair<T: Number>(
 // ---- the five pairs: the map takes a NaN (-7 for an integer) and zero, the first of two entries for it
 
 fn f64_u8(rt: &impl Print, src: [f64; 4], rounding: u8, range: u8) -> io::Result<()> {
-    let map = [
+    let map: ThreeEntryF64U8 = [
         EntryF64U8 {
             key: f64::NAN,
             target: 9,
@@ -65,7 +66,7 @@ fn f64_u8(rt: &impl Print, src: [f64; 4], rounding: u8, range: u8) -> io::Result
 }
 
 fn f64_i32(rt: &impl Print, src: [f64; 4], rounding: u8, range: u8) -> io::Result<()> {
-    let map = [
+    let map: ThreeEntryF64I32 = [
         EntryF64I32 {
             key: f64::NAN,
             target: -9,
@@ -85,7 +86,7 @@ fn f64_i32(rt: &impl Print, src: [f64; 4], rounding: u8, range: u8) -> io::Resul
 }
 
 fn f32_u8(rt: &impl Print, src: [f32; 4], rounding: u8, range: u8) -> io::Result<()> {
-    let map = [
+    let map: ThreeEntryF32U8 = [
         EntryF32U8 {
             key: f32::NAN,
             target: 9,
@@ -105,7 +106,7 @@ fn f32_u8(rt: &impl Print, src: [f32; 4], rounding: u8, range: u8) -> io::Result
 }
 
 fn f64_f32(rt: &impl Print, src: [f64; 4], rounding: u8, range: u8) -> io::Result<()> {
-    let map = [
+    let map: ThreeEntry = [
         Entry {
             key: f64::NAN,
             target: 9.5,
@@ -125,7 +126,7 @@ fn f64_f32(rt: &impl Print, src: [f64; 4], rounding: u8, range: u8) -> io::Resul
 }
 
 fn i64_f32(rt: &impl Print, src: [i64; 4], rounding: u8, range: u8) -> io::Result<()> {
-    let map = [
+    let map: ThreeEntryI64F32 = [
         EntryI64F32 {
             key: -7,
             target: 9.5,

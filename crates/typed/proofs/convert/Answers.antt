@@ -1,5 +1,7 @@
 -- The checks refuse the call, or the loop starts where they leave it, and each turn keeps what `Turns` says.
-use Rattle.std.proofs.Common.{arith}
+use Rattle.std.proofs.Common.{ℕ, ◌≡◌, ◌^◌, ◌<◌, sym, subst, arith}
+use Rattle.patterns.specs.Kind.{bits}
+use Rattle.kinds.specs.Table.{kind_of}
 use Rattle.typed.proofs.Turns.{Elements, refuses_call, starts, ends, countable, turns}
 use Rattle.typed.proofs.Pairs.{elements}
 use Rattle.typed.proofs.convert.Goals as goal
@@ -7,6 +9,16 @@ use Rattle.typed.proofs.convert.Given.{Over}
 
 abbrev pair : (g : Over) → Elements g.row.S.Denot g.row.T.Denot g.row.E.Denot
 pair g = elements g.S.Number.CODE g.T.Number.CODE g.S.Number.pattern g.T.Number.pattern g.T.FromPattern.from_pattern g.E.MapEntry.key g.E.MapEntry.target g.met.S.CastTo.laws
+
+-- an element's pattern is one of its kind
+fits : (g : Over) (x : g.row.S.Denot) (p : ℕ) → p ≡ g.S.Number.pattern x → p < 2 ^ bits (kind_of g.S.Number.CODE)
+fits g x p e = subst (λ (n : ℕ). n < 2 ^ bits (kind_of g.S.Number.CODE)) (sym e) (g.met.S.CastTo.laws.source_fits x)
+
+pub cast-fit-requires : goal.cast-fit-requires
+cast-fit-requires g c = fits g c.index-src-i.result c.pattern-b.result c.pattern-b.ensures
+
+pub outcome-outcome-requires : goal.outcome-outcome-requires
+outcome-outcome-requires g c = fits g c.index-src-i.result c.pattern-b.result c.pattern-b.ensures
 
 pub returns-in-Err : goal.returns-in-Err
 returns-in-Err g c =
@@ -24,7 +36,7 @@ returns-in_default g c =
     let l = c.loop-i in
     (turns (pair g) a.src.now a.entries.now a.rounding a.range a.dst.now c.in-Ok.modes c.CODE.result c.CODE.ensures c.in-Ok.ensures
     l.i l.dst l.tally l.invariant c.loop-i-test.true l.auto.dst
-    c.index-src-i.result c.lookup.result c.cast-fit.result (c.index-src-i.is, c.lookup.ensures, c.cast-fit.ensures)).ends_there
+    c.index-src-i.result c.pattern-b.result c.lookup-found.result c.cast-fit.result (c.index-src-i.is, c.pattern-b.ensures, c.lookup-found.ensures, c.cast-fit.ensures)).ends_there
     (λ b how e. c.in_default.not-Ok _ e) c.outcome-outcome.result c.outcome-outcome.ensures c.refusal.result c.refusal.ensures.answer c.reply.result c.reply.ensures
 
 pub count-requires : goal.count-requires
@@ -40,7 +52,7 @@ loop-i-preserved g c =
     let l = c.loop-i in
     (turns (pair g) a.src.now a.entries.now a.rounding a.range a.dst.now c.in-Ok.modes c.CODE.result c.CODE.ensures c.in-Ok.ensures
     l.i l.dst l.tally l.invariant c.loop-i-test.true l.auto.dst
-    c.index-src-i.result c.lookup.result c.cast-fit.result (c.index-src-i.is, c.lookup.ensures, c.cast-fit.ensures)).goes_on
+    c.index-src-i.result c.pattern-b.result c.lookup-found.result c.cast-fit.result (c.index-src-i.is, c.pattern-b.ensures, c.lookup-found.ensures, c.cast-fit.ensures)).goes_on
     c.in-Ok-fit.stored.pattern c.in-Ok-fit.stored.fared c.in-Ok-fit.is c.from_pattern.result c.from_pattern.ensures c.count.new.tally c.count.ensures
 
 pub returns : goal.returns

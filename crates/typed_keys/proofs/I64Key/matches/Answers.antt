@@ -1,20 +1,20 @@
 -- Integers are equal where their patterns are.
-use Rattle.std.proofs.Common.{◌≡◌, true, ◌%◌, ◌^◌, ◌<◌, sym, ap₂, ◌∙◌, arith}
+use Rattle.std.proofs.Common.{ℕ, true, sym, ap, ◌∙◌}
 use native.Mathlib.Nat.{mod-eq_of_lt}
 use lib.Dec.{eqb, lit<}
-use lib.IntN.{ℤ, pos, negsuc}
 use mir.Syntax.{w64}
-use mir.Val.{SFits, of_z}
+use mir.ValLaws.{to_z-of_z}
+use Rattle.kinds.specs.Table.{kind_of}
+use Rattle.patterns.specs.Value.{value_of}
+use Rattle.cast_spec.specs.Element.{matches}
 use Rattle.mapping.proofs.Integers.{integers_match}
-use Rattle.typed_values.specs.Bits.{i64_bits}
 use Rattle.typed_values.proofs.Fits.{i64_fits}
+use Rattle.typed_values.specs.Bits.{i64_bits}
 use Rattle.typed_keys.proofs.I64Key.matches.Goals as goal
-
-own_bits : (z : ℤ) → SFits w64 z → of_z w64 z ≡ i64_bits z
-own_bits (pos n) h = let k : n < 2 ^ 64 = omega (arith, h.sfits) in sym (mod-eq_of_lt k)
-own_bits (negsuc n) h = let k : n < 2 ^ 64 = omega (arith, h.sfits) in let e : n % 2 ^ 64 ≡ n = mod-eq_of_lt k in omega (arith, e)
 
 pub returns : goal.returns
 returns c =
     let a = c.args in
-    ap₂ eqb (own_bits a.self c.ranges.self) (own_bits a.key c.ranges.key) ∙ integers_match true 64 (i64_bits a.self) (i64_bits a.key) (lit< tt) (i64_fits a.self) (i64_fits a.key)
+    ap (eqb a.x) (c.pattern.ensures ∙ ap i64_bits (to_z-of_z w64 a.self c.ranges.self))
+    ∙ integers_match true 64 a.x (i64_bits a.self) (lit< tt) c.ranges.x.fits (i64_fits a.self)
+    ∙ ap (λ (n : ℕ). matches (value_of (kind_of 3) n) (value_of (kind_of 3) (i64_bits a.self))) (sym (mod-eq_of_lt c.ranges.x.fits))
