@@ -1,7 +1,7 @@
 /*
  * polskrea: chunks of numbers cast between eleven number kinds.
  *
- * Link target/staticlib/libpolskrea.a, which tools/libraries makes (x86-64 Linux; it calls `memset` and nothing else, keeps
+ * Link target/staticlib/libpolskrea.a, which tools/libraries makes (x86-64 Linux; it needs no other library, calls nothing, keeps
  * no state, allocates nothing, and may be called from several threads at once).
  *
  * What is said below of the answer and of the destination is proved of the library's code, for every input that keeps the caller's side:

@@ -1,4 +1,4 @@
-// The eleven number kinds, in one constant table.
+// The eleven number kinds, in one table.
 #![tactic(auto)]
 
 ghost use Rattle.std.specs.Prelude.{◌≡◌, ◌<◌};
@@ -120,8 +120,8 @@ pub const F64: FloatFormat = FloatFormat {
     highest: 0x7fef_ffff_ffff_ffff,
 };
 
-// The eleven kinds, in the order of their codes. A constant: with a static a call takes more time (docs/PERFORMANCE.md).
-const KINDS: [KindRow; 11] = [
+// The eleven kinds, in the order of their codes.
+static KINDS: [KindRow; 11] = [
     KindRow {
         bytes: 1,
         format: Format::Integer(I8),
