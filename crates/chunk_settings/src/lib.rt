@@ -6,7 +6,9 @@ ghost use Rattle.chunk_settings.specs.Settings.{settings_by};
 
 use chunk_element::Settings;
 
-// The settings of listed codes and of so many bytes of keys.
+// The settings of listed codes and of so many bytes of keys. Out of line, so that the compiler does not carry the table of kinds into the loop over the
+// elements, which then takes up to a quarter more time (docs/PERFORMANCE.md).
+#[inline(never)]
 pub fn settings_of(from: u8, to: u8, rounding: u8, range: u8, keys: usize) -> Settings
     requires { (from < 11) × (to < 11) }
     ensures { result ≡ settings_by from to rounding range keys }
