@@ -7,12 +7,12 @@ ghost use Rattle.typed_entries.specs.Entries.{f64_u8, f64_i32, f32_u8, f64_f32, 
 ghost use Rattle.polskrea_typed.specs.Exported.{Exported};
 
 use answer_fields::Fields;
-use typed_casts::CastTo;
+use typed_casts::CastPattern;
 use typed_entries::{Entry, EntryF32U8, EntryF64I32, EntryF64U8, EntryI64F32, MapEntry};
 use typed_patterns::FromPattern;
 
 // A typed call of any pair: its answer's number, and the fields.
-fn returned<S: CastTo<T>, T: FromPattern, E: MapEntry<S, T>>(
+fn returned<S: CastPattern<T>, T: FromPattern, E: MapEntry<S, T>>(
     src: &[S],
     dst: &mut [T],
     entries: &[E],
@@ -22,7 +22,7 @@ fn returned<S: CastTo<T>, T: FromPattern, E: MapEntry<S, T>>(
 ) -> u8
     ensures { Exported S.CODE T.CODE (map S.pattern src.now) (map T.pattern dst.old) (map (entry_of S.pattern T.pattern E.key E.target) entries.now) rounding range result answer.new (map T.pattern dst.new) }
 {
-    let reply = typed::convert(src, dst, entries, rounding, range);
+    let reply = typed::convert_by_pattern(src, dst, entries, rounding, range);
     answer_fields::answered(reply, answer)
 }
 

@@ -113,6 +113,11 @@ module _ {X Y Z : Type 0} (P : Elements X Y Z) (xs : List X) (ys : List Z) (roun
   unfolding outcome_of
   outcome_is x f e = ap₂ found_or e (no_map (kind_of from) (kind_of to) modes.rounding modes.range es x (kind_of to) (value_of (kind_of from) x))
 
+  -- what the map gives for the lowest bits of an element's pattern is what it gives for the pattern
+  pub looked_up : (x : X) (p : ℕ) → p ≡ P.source_bits x → (f : Option ℕ) → f ≡ lookup_of (kind_of from) (value_of (kind_of from) (p % 2 ^ bits (kind_of from))) es → f ≡ lookup_of (kind_of from) (value_of (kind_of from) p) es
+  looked_up x p e f h =
+      h ∙ ap (λ (n : ℕ). lookup_of (kind_of from) (value_of (kind_of from) n) es) (mod-eq_of_lt (subst (λ (n : ℕ). n < 2 ^ bits (kind_of from)) (sym e) (P.source_fits x)))
+
   abbrev v : ℕ
   v = width (kind_of from)
 
@@ -276,7 +281,7 @@ module _ {X Y Z : Type 0} (P : Elements X Y Z) (xs : List X) (ys : List Z) (roun
 
         -- the pattern p and the fit of the element x, as the program has them
         abbrev Comes : X → ℕ → Option ℕ → Fit → Type 0
-        Comes x p f t = (x ≡ get_or xs i x) × (p ≡ P.source_bits x) × (f ≡ lookup_of (kind_of from) (value_of (kind_of from) (p % 2 ^ bits (kind_of from))) es) × (t ≡ stepped f (kind_of from) (kind_of to) m.rounding m.range p)
+        Comes x p f t = (x ≡ get_or xs i x) × (p ≡ P.source_bits x) × (f ≡ lookup_of (kind_of from) (value_of (kind_of from) p) es) × (t ≡ stepped f (kind_of from) (kind_of to) m.rounding m.range p)
 
         -- a turn at the element of the pattern p and the fit t: where it is stored, the next turn goes on from it, and where it is refused, the call ends there
         pub record Turn (p : ℕ) (t : Fit) : Type 0 where
@@ -288,14 +293,8 @@ module _ {X Y Z : Type 0} (P : Elements X Y Z) (xs : List X) (ys : List Z) (roun
           abbrev comes_to : Outcome
           comes_to = cast_of m f p
 
-          fits_kind : p < 2 ^ bits (kind_of from)
-          fits_kind = subst (λ (n : ℕ). n < 2 ^ bits (kind_of from)) (sym comes.1) (P.source_fits x)
-
-          looked_up : f ≡ lookup_of (kind_of from) (value_of (kind_of from) p) es
-          looked_up = comes.2 ∙ ap (λ (n : ℕ). lookup_of (kind_of from) (value_of (kind_of from) n) es) (mod-eq_of_lt fits_kind)
-
           own : outcome_of S p ≡ comes_to
-          own = sym (ap (λ (n : Modes). cast_of n f p) pass.modes_are ∙ outcome_is p f looked_up)
+          own = sym (ap (λ (n : Modes). cast_of n f p) pass.modes_are ∙ outcome_is p f comes.2)
 
           outcome_at_i : comes_to ≡ o i
           outcome_at_i = sym own ∙ ap (outcome_of S) (comes.1 ∙ ap P.source_bits comes.0 ∙ mapped_at P.source_bits xs i x inside) ∙ sym (outcome_at_lem (map of ds) i below)

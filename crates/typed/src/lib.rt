@@ -1,4 +1,5 @@
-// The typed calls: slices of numbers converted element by element, with a slice of map entries, by the same steps as the chunk call.
+// The typed calls: slices of numbers converted element by element, with a slice of map entries, by the same steps as the chunk call. Those here take each
+// element's pattern once and go by it; those of `elements` are for a source that is known by its elements alone.
 #![tactic(auto)]
 
 ghost use Rattle.std.specs.Prelude.{◌≡◌, map};
@@ -6,8 +7,11 @@ ghost use Rattle.typed_entries.specs.Entries.{entry_of};
 ghost use Rattle.typed.specs.Checks.{check_of};
 ghost use Rattle.typed.specs.Typed.{TypedContract};
 
+mod elements;
+
 use answers::{Refusal, Reply};
-use typed_casts::{CastTo, Modes};
+pub use elements::{convert, convert_with3};
+use typed_casts::{CastPattern, Modes};
 use typed_entries::{Entry, EntryF32U8, EntryF64I32, EntryF64U8, EntryI64F32, MapEntry};
 use typed_patterns::FromPattern;
 
@@ -48,7 +52,7 @@ pub fn check(
 }
 
 // Converts the elements of a source. A refusal before the elements leaves the destination as it was, and one of an element leaves it so from that element on.
-pub fn convert<S: CastTo<T>, T: FromPattern, E: MapEntry<S, T>>(
+pub fn convert_by_pattern<S: CastPattern<T>, T: FromPattern, E: MapEntry<S, T>>(
     src: &[S],
     dst: &mut [T],
     entries: &[E],
@@ -64,10 +68,10 @@ pub fn convert<S: CastTo<T>, T: FromPattern, E: MapEntry<S, T>>(
     let mut tally = tallies::no_tally();
     for (i, x) in src.iter().enumerate() {
         let b = x.pattern();
-        let found = typed_entries::lookup::<S, T, E>(entries, b);
-        let fit = S::cast(b, found, modes);
+        let found = typed_entries::lookup_pattern::<S, T, E>(entries, b);
+        let fit = S::cast_pattern(b, found, modes);
         let Ok(stored) = fit else {
-            let outcome = typed_casts::outcome::<S, T>(b, fit);
+            let outcome = typed_casts::outcome_of_pattern::<S, T>(b, fit);
             return replies::reply(refusals::refusal(i, outcome), tally);
         };
         tallies::count(&mut tally, stored.fared);
@@ -77,7 +81,7 @@ pub fn convert<S: CastTo<T>, T: FromPattern, E: MapEntry<S, T>>(
 }
 
 // The same with three entries by value, for callers that have no slice of them.
-pub fn convert_with3<S: CastTo<T>, T: FromPattern, E: MapEntry<S, T>>(
+pub fn convert_by_pattern_with3<S: CastPattern<T>, T: FromPattern, E: MapEntry<S, T>>(
     src: &[S],
     dst: &mut [T],
     entries: [E; 3],
@@ -86,5 +90,5 @@ pub fn convert_with3<S: CastTo<T>, T: FromPattern, E: MapEntry<S, T>>(
 ) -> Reply
     ensures { TypedContract S.CODE T.CODE (map S.pattern src.now) (map T.pattern dst.old) (map (entry_of S.pattern T.pattern E.key E.target) entries) rounding range result (map T.pattern dst.new) }
 {
-    convert(src, dst, &entries, rounding, range)
+    convert_by_pattern(src, dst, &entries, rounding, range)
 }

@@ -8,7 +8,7 @@ ghost use Rattle.kinds.specs.Table.{kind_of};
 ghost use Rattle.cast_spec.specs.Element.{matches, lookup_of};
 ghost use Rattle.typed_entries.specs.Entries.{entry_of};
 
-use typed_keys::Key;
+use typed_keys::{Key, PatternKey};
 use typed_values::Number;
 
 // A map entry of a pair of kinds. C knows each pair's by its fields, so each is a struct with no type parameters.
@@ -134,15 +134,26 @@ impl MapEntry<i64, f32> for EntryI64F32 {
     }
 }
 
+// The target of the first entry that matches.
+pub fn lookup<K: Key, T: Number, E: MapEntry<K, T>>(entries: &[E], x: K) -> Option<u64>
+    ensures { result ≡ lookup_of (kind_of K.CODE) (value_of (kind_of K.CODE) (K.pattern x)) (map (entry_of K.pattern T.pattern E.key E.target) entries.now) }
+{
+    let first = entries.iter().find(|entry| x.matches(entry.key()))?;
+    Some(first.target().pattern())
+}
+
 // Whether an entry's key matches the number of the pattern x.
-fn matches<K: Key, T: Number, E: MapEntry<K, T>>(entry: E, x: u64) -> bool
+fn matches<K: PatternKey, T: Number, E: MapEntry<K, T>>(entry: E, x: u64) -> bool
     ensures { result ≡ matches (value_of (kind_of K.CODE) (x % 2 ^ bits (kind_of K.CODE))) (value_of (kind_of K.CODE) (entry_of K.pattern T.pattern E.key E.target entry).key) }
 {
-    entry.key().matches(x)
+    entry.key().matches_pattern(x)
 }
 
 // The target of the first entry that matches the number of the pattern x.
-pub fn lookup<K: Key, T: Number, E: MapEntry<K, T>>(entries: &[E], x: u64) -> Option<u64>
+pub fn lookup_pattern<K: PatternKey, T: Number, E: MapEntry<K, T>>(
+    entries: &[E],
+    x: u64,
+) -> Option<u64>
     ensures { result ≡ lookup_of (kind_of K.CODE) (value_of (kind_of K.CODE) (x % 2 ^ bits (kind_of K.CODE))) (map (entry_of K.pattern T.pattern E.key E.target) entries.now) }
 {
     for entry in entries {

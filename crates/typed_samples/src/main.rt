@@ -61,7 +61,7 @@ fn f64_u8(rt: &impl Print, src: [f64; 4], rounding: u8, range: u8) -> io::Result
         },
     ];
     let mut dst = [0xaau8; 4];
-    let r = typed::convert_with3(&src, &mut dst, map, rounding, range);
+    let r = typed::convert_by_pattern_with3(&src, &mut dst, map, rounding, range);
     print_pair(rt, "f64 u8", rounding, range, r, &dst, 2)
 }
 
@@ -81,7 +81,7 @@ fn f64_i32(rt: &impl Print, src: [f64; 4], rounding: u8, range: u8) -> io::Resul
         },
     ];
     let mut dst = [-1i32; 4];
-    let r = typed::convert_with3(&src, &mut dst, map, rounding, range);
+    let r = typed::convert_by_pattern_with3(&src, &mut dst, map, rounding, range);
     print_pair(rt, "f64 i32", rounding, range, r, &dst, 8)
 }
 
@@ -101,7 +101,7 @@ fn f32_u8(rt: &impl Print, src: [f32; 4], rounding: u8, range: u8) -> io::Result
         },
     ];
     let mut dst = [0xaau8; 4];
-    let r = typed::convert_with3(&src, &mut dst, map, rounding, range);
+    let r = typed::convert_by_pattern_with3(&src, &mut dst, map, rounding, range);
     print_pair(rt, "f32 u8", rounding, range, r, &dst, 2)
 }
 
@@ -121,7 +121,7 @@ fn f64_f32(rt: &impl Print, src: [f64; 4], rounding: u8, range: u8) -> io::Resul
         },
     ];
     let mut dst = [-1.5f32; 4];
-    let r = typed::convert_with3(&src, &mut dst, map, rounding, range);
+    let r = typed::convert_by_pattern_with3(&src, &mut dst, map, rounding, range);
     print_pair(rt, "f64 f32", rounding, range, r, &dst, 8)
 }
 
@@ -141,7 +141,7 @@ fn i64_f32(rt: &impl Print, src: [i64; 4], rounding: u8, range: u8) -> io::Resul
         },
     ];
     let mut dst = [-1.5f32; 4];
-    let r = typed::convert_with3(&src, &mut dst, map, rounding, range);
+    let r = typed::convert_by_pattern_with3(&src, &mut dst, map, rounding, range);
     print_pair(rt, "i64 f32", rounding, range, r, &dst, 8)
 }
 

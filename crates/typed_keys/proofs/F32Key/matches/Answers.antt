@@ -1,14 +1,14 @@
--- The law of float keys, at each outcome of the two tests.
-use Rattle.std.proofs.Common.{◌%◌, ◌^◌, refl, sym, ◌∙◌}
-use lib.Ieee.{binary32}
-use Rattle.typed_keys.proofs.FloatKeys.{key_matches}
+-- An element's pattern is one of its kind, so it is the number of its lowest bits.
+use Rattle.std.proofs.Common.{ℕ, ◌%◌, ◌^◌, ap, ◌∙◌}
+use native.Mathlib.Nat.{mod-eq_of_lt}
+use Rattle.patterns.specs.Kind.{f32}
+use Rattle.patterns.specs.Value.{value_of}
+use Rattle.cast_spec.specs.Element.{matches}
+use Rattle.typed_values.specs.Bits.{f32_bits}
+use Rattle.typed_values.proofs.Fits.{f32_fits}
 use Rattle.typed_keys.proofs.F32Key.matches.Goals as goal
 
-pub returns-then-single-self : goal.returns-then-single-self
-returns-then-single-self c = let a = c.args in c.if-single-self.true ∙ key_matches binary32 a.self c.from_pattern-single.result (a.x % 2 ^ 32) c.well_formed.0.1 c.from_pattern-single.ensures c.if-single-self.true refl
-
-pub returns-then-is_nan : goal.returns-then-is_nan
-returns-then-is_nan c = let a = c.args in c.is_nan-then-is_nan.ensures.value ∙ key_matches binary32 a.self c.from_pattern-single.result (a.x % 2 ^ 32) c.well_formed.0.1 c.from_pattern-single.ensures c.if-single-self.false (sym c.if-is_nan.ensures.value)
-
-pub returns-else-is_nan : goal.returns-else-is_nan
-returns-else-is_nan c = let a = c.args in c.is_nan.ensures.value ∙ sym c.if-is_nan.ensures.value ∙ key_matches binary32 a.self c.from_pattern-single.result (a.x % 2 ^ 32) c.well_formed.0.1 c.from_pattern-single.ensures c.if-single-self.false (sym c.if-is_nan.ensures.value)
+pub returns : goal.returns
+returns c =
+    let a = c.args in
+    c.matches_pattern.ensures ∙ ap (λ (n : ℕ). matches (value_of f32 n) (value_of f32 (f32_bits a.key))) (ap (λ (n : ℕ). n % 2 ^ 32) c.pattern.ensures ∙ mod-eq_of_lt (f32_fits a.self))

@@ -1,0 +1,14 @@
+-- The law of float keys, at each outcome of the two tests.
+use Rattle.std.proofs.Common.{◌%◌, ◌^◌, refl, sym, ◌∙◌}
+use lib.Ieee.{binary32}
+use Rattle.typed_keys.proofs.FloatKeys.{key_matches}
+use Rattle.typed_keys.proofs.F32PatternKey.matches_pattern.Goals as goal
+
+pub returns-then-single-self : goal.returns-then-single-self
+returns-then-single-self c = let a = c.args in c.if-single-self.true ∙ key_matches binary32 a.self c.from_pattern-single.result (a.x % 2 ^ 32) c.well_formed.0.1 c.from_pattern-single.ensures c.if-single-self.true refl
+
+pub returns-then-is_nan : goal.returns-then-is_nan
+returns-then-is_nan c = let a = c.args in c.is_nan-then-is_nan.ensures.value ∙ key_matches binary32 a.self c.from_pattern-single.result (a.x % 2 ^ 32) c.well_formed.0.1 c.from_pattern-single.ensures c.if-single-self.false (sym c.if-is_nan.ensures.value)
+
+pub returns-else-is_nan : goal.returns-else-is_nan
+returns-else-is_nan c = let a = c.args in c.is_nan.ensures.value ∙ sym c.if-is_nan.ensures.value ∙ key_matches binary32 a.self c.from_pattern-single.result (a.x % 2 ^ 32) c.well_formed.0.1 c.from_pattern-single.ensures c.if-single-self.false (sym c.if-is_nan.ensures.value)
